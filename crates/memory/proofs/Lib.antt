@@ -1,0 +1,5 @@
+pub mod Answers
+pub mod Cuts
+pub mod Masks
+pub mod Halves
+pub mod Joins

@@ -1,0 +1,3 @@
+pub mod Octets
+pub mod Halves
+pub mod Cuts
