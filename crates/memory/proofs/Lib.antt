@@ -3,3 +3,4 @@ pub mod Cuts
 pub mod Masks
 pub mod Halves
 pub mod Joins
+pub mod Operations

@@ -5,13 +5,12 @@ ghost use Prim.Native.Nat.{ℕ, _≤_};
 ghost use denote.Ref.{now};
 ghost use lib.ListN.{length, set};
 ghost use Rattle.memory.specs.Octets.{readOf, writeOf};
+
 pub mod fault;
-
-
 pub mod joined;
+pub mod operation;
 pub mod row;
 pub mod words;
-
 
 use fault::MemoryFault;
 

@@ -55,7 +55,11 @@ fn with_high(word: u16, octet: u8) -> u16
 fn half(word: u16, place: u32) -> u8
     ensures { λ r. ⌜ r ≡ halfAt word place ⌝ }
 {
-    if place % 2 == 0 { low(word) } else { high(word) }
+    if place % 2 == 0 {
+        low(word)
+    } else {
+        high(word)
+    }
 }
 
 // The word with that half replaced, and the other kept.

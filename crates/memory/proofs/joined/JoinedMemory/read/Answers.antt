@@ -1,19 +1,18 @@
-use borrow.Author.Needs.{needs}
-use native.Mathlib.Omega.{arith}
-use mathlib.Core.Path.{_∙_}
-use Rattle.memory.proofs.Answers.{read-outside}
-use Rattle.memory.proofs.Joins.{read-first, read-second}
+use mathlib.Core.Path.{refl, ap, _∙_}
+use Rattle.std.specs.declared.result.Result.the-variants.{Err}
+use Rattle.memory.proofs.Joins.{read-first, read-second, read-beyond}
 use Rattle.memory.proofs.joined.JoinedMemory.read.Needs as need
 
-pub returns-then-place-size : need.returns-then-place-size
-returns-then-place-size g c = search (needs, read-outside)
+pub returns-in-First : need.returns-in-First
+returns-in-First g c =
+    record { value = c .read .ensures .value ∙ read-first _ _ _ _ (c .in-First .ensures tt); same = simp (c .read .ensures .same) }
 
-pub returns-then-place-first : need.returns-then-place-first
-returns-then-place-first g c =
-    let done = c .read .ensures in
-    record { value = done .value ∙ read-first _ _ _ (omega arith) (omega arith); same = simp (done .same) }
+pub returns-in-Second : need.returns-in-Second
+returns-in-Second g c =
+    record {
+      value = c .read-in-Second .ensures .value ∙ read-second _ _ _ _ (c .in-Second .ensures tt);
+      same = simp (c .read-in-Second .ensures .same);
+    }
 
-pub returns-else-place-first : need.returns-else-place-first
-returns-else-place-first g c =
-    let done = c .read-else-place-first .ensures in
-    record { value = (simp (c .size-first .ensures) at (done .value)) ∙ read-second _ _ _ (omega arith) (omega arith); same = simp (done .same) }
+pub returns-in-Beyond : need.returns-in-Beyond
+returns-in-Beyond g c = record { value = ap Err (c .at .ensures) ∙ read-beyond _ _ _ (c .in-Beyond .ensures tt); same = refl }
