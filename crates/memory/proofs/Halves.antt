@@ -2,7 +2,7 @@
 use mathlib.Core.Path.{_≡_, refl, ap, sym, _∙_}
 use mathlib.Core.Bool.{cond}
 use mathlib.Core.List.{List, [], _∷_}
-use Prim.Native.Nat.{ℕ, zero, suc, _+_, _*_, _/_, _%_, _<_, _≤_}
+use Prim.Native.Nat.{ℕ, zero, suc, _+_, _*_, _/_, _%_, _<_, _≤_, min}
 use native.Mathlib.Omega.{arith}
 use lib.Dec.{eqb}
 use lib.ListN.{length, getD, set}
@@ -10,6 +10,8 @@ use Rattle.std.specs.declared.result.Result.the-variants.{Ok, Err}
 use Rattle.std.proofs.shelf.Lists.{set-past}
 use Rattle.memory.specs.Octets.{outside, readOf, writeOf}
 use Rattle.memory.specs.Halves.{halves, halfAt, withHalf, length-halves}
+use Rattle.memory.specs.Cuts.{counted}
+use Rattle.memory.proofs.Cuts.{counted-in, counted-get, counted-set, past}
 use Rattle.memory.proofs.Answers.{read-inside, read-outside, write-inside, write-outside}
 
 -- two places further is one word further
@@ -37,22 +39,36 @@ write-half (w ∷ ws) (suc zero) v h =
     rw (low, high)
 write-half (w ∷ ws) (suc (suc i)) v h = rw (word-more, half-more) (ap (λ l. w % 256 ∷ (w / 256 ∷ l)) (write-half ws i v h))
 
--- what the memory of the halves answers, by the word at a place
-module _ (ws : List ℕ) (i : ℕ) where
-  pub word-read : i / 2 < length ws → readOf (halves ws) i ≡ Ok (halfAt (getD ws (i / 2) 0) i)
-  word-read h = read-inside (halves ws) i (omega (arith, length-halves ws)) ∙ ap Ok (read-half ws i)
+-- what the memory of the halves answers, by the word at a place, of words of which only the first n count
+module _ (n : ℕ) (ws : List ℕ) (i : ℕ) where
+  module _ (counts : i / 2 < min (length ws) n) where
+    within : i < length (halves (counted n ws))
+    within = omega (arith, length-halves (counted n ws), counted-in n ws (i / 2) counts)
 
-  pub word-written : i / 2 < length ws → writeOf (halves ws) i ≡ Ok tt
-  word-written h = write-inside (halves ws) i (omega (arith, length-halves ws))
+    same-word : getD (counted n ws) (i / 2) 0 ≡ getD ws (i / 2) 0
+    same-word = counted-get n ws (i / 2) counts
 
-  past : length ws ≤ i / 2 → length (halves ws) ≤ i
-  past h = omega (arith, length-halves ws)
+    pub word-read : readOf (halves (counted n ws)) i ≡ Ok (halfAt (getD ws (i / 2) 0) i)
+    word-read =
+        read-inside (halves (counted n ws)) i within ∙ ap Ok (read-half (counted n ws) i ∙ ap (λ w. halfAt w i) same-word)
 
-  pub no-word-read : length ws ≤ i / 2 → readOf (halves ws) i ≡ Err (outside i)
-  no-word-read h = read-outside (halves ws) i (past h)
+    pub word-written : writeOf (halves (counted n ws)) i ≡ Ok tt
+    word-written = write-inside (halves (counted n ws)) i within
 
-  pub no-word-written : length ws ≤ i / 2 → writeOf (halves ws) i ≡ Err (outside i)
-  no-word-written h = write-outside (halves ws) i (past h)
+    pub word-set : (w v : ℕ) → v < 256 → w ≡ withHalf (getD ws (i / 2) 0) i v → halves (counted n (set ws (i / 2) w)) ≡ set (halves (counted n ws)) i v
+    word-set w v h is =
+        let same : w ≡ withHalf (getD (counted n ws) (i / 2) 0) i v = is ∙ ap (λ x. withHalf x i v) (sym same-word) in
+        ap halves (counted-set n ws (i / 2) counts w ∙ ap (set (counted n ws) (i / 2)) same) ∙ write-half (counted n ws) i v h
 
-  pub no-word-set : (v : ℕ) → length ws ≤ i / 2 → halves ws ≡ set (halves ws) i v
-  no-word-set v h = sym (set-past (halves ws) i v (past h))
+  module _ (beyond : min (length ws) n ≤ i / 2) where
+    none-left : length (halves (counted n ws)) ≤ i
+    none-left = omega (arith, length-halves (counted n ws), past n ws (i / 2) beyond)
+
+    pub no-word-read : readOf (halves (counted n ws)) i ≡ Err (outside i)
+    no-word-read = read-outside (halves (counted n ws)) i none-left
+
+    pub no-word-written : writeOf (halves (counted n ws)) i ≡ Err (outside i)
+    no-word-written = write-outside (halves (counted n ws)) i none-left
+
+    pub no-word-set : (v : ℕ) → halves (counted n ws) ≡ set (halves (counted n ws)) i v
+    no-word-set v = sym (set-past (halves (counted n ws)) i v none-left)

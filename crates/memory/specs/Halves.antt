@@ -6,6 +6,7 @@ use Prim.Native.Nat.{ℕ, _+_, _*_, _/_, _%_, _≤_}
 use native.Mathlib.Omega.{arith}
 use lib.Dec.{eqb}
 use lib.ListN.{length}
+use Rattle.memory.specs.Cuts.{counted, counted-bounded}
 
 abbrev pub halves : List ℕ → List ℕ
 halves [] = []
@@ -22,5 +23,5 @@ pub length-halves : (ws : List ℕ) → length (halves ws) ≡ 2 * length ws
 length-halves [] = refl
 length-halves (w ∷ ws) = omega (arith, length-halves ws)
 
-pub halves-bounded : (ws : List ℕ) → length ws ≤ 30720 → length (halves ws) ≤ 61440
-halves-bounded ws h = omega (arith, length-halves ws)
+pub halves-bounded : (ws : List ℕ) → length (halves (counted 30720 ws)) ≤ 61440
+halves-bounded ws = omega (arith, length-halves (counted 30720 ws), counted-bounded 30720 ws)

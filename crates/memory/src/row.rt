@@ -1,42 +1,36 @@
 // Octets in a row.
 ghost use mathlib.Core.Path.{_≡_};
-ghost use Prim.Native.Nat.{_≤_};
 ghost use denote.Ref.{now};
-ghost use lib.ListN.{length, take};
+ghost use Rattle.memory.specs.Cuts.{counted, counted-bounded};
 use crate::LIMIT;
 use crate::Memory;
 use crate::fault::MemoryFault;
 
-// A memory over a lent slice of octets.
+// A memory over a lent slice of octets. What the slice holds beyond 61,440 octets is not part of it.
 #[derive(Drop)]
 pub struct Row<'a> {
     cells: &'a mut [u8],
-    ghost few: { length (now cells) ≤ 61440 },
 }
 
 impl<'a> Row<'a> {
-    // What the slice holds beyond 61,440 octets is not part of the memory.
     pub fn new(cells: &'a mut [u8]) -> Row<'a>
-        ensures { λ r. ⌜ now (r .cells) ≡ take 61440 (now (cells .entry)) ⌝ }
+        ensures { λ r. ⌜ now (r .cells) ≡ now (cells .entry) ⌝ }
     {
-        let size = cells.len().min(LIMIT);
-        Row {
-            cells: &mut cells[0..size],
-        }
+        Row { cells }
     }
 }
 
 pub impl Memory for Row<'_> as RowMemory {
-    ghost octets = { λ m. now (m .cells) };
+    ghost octets = { λ m. counted 61440 (now (m .cells)) };
 
-    ghost bounded = { λ m. m .few };
+    ghost bounded = { λ m. counted-bounded 61440 (now (m .cells)) };
 
     fn size(&self) -> usize {
-        self.cells.len()
+        self.cells.len().min(LIMIT)
     }
 
     fn read(&mut self, place: u32) -> Result<u8, MemoryFault> {
-        if (place as usize) < self.cells.len() {
+        if (place as usize) < self.cells.len().min(LIMIT) {
             Ok(self.cells[place as usize])
         } else {
             Err(MemoryFault::at(place))
@@ -44,7 +38,7 @@ pub impl Memory for Row<'_> as RowMemory {
     }
 
     fn write(&mut self, place: u32, octet: u8) -> Result<(), MemoryFault> {
-        if (place as usize) < self.cells.len() {
+        if (place as usize) < self.cells.len().min(LIMIT) {
             self.cells[place as usize] = octet;
             Ok(())
         } else {

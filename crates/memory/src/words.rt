@@ -1,29 +1,32 @@
 // 16-bit words: an even place is the low half of its word, an odd one the high half.
 ghost use mathlib.Core.Path.{_≡_};
-ghost use Prim.Native.Nat.{_+_, _*_, _/_, _%_, _≤_};
+ghost use Prim.Native.Nat.{_+_, _*_, _/_, _%_, min};
 ghost use denote.Ref.{now};
-ghost use lib.ListN.{length, take};
+ghost use lib.ListN.{length};
+ghost use Rattle.memory.specs.Cuts.{counted};
 ghost use Rattle.memory.specs.Halves.{halves, halves-bounded, halfAt, withHalf};
 use crate::LIMIT;
 use crate::Memory;
 use crate::fault::MemoryFault;
 
-// A memory over a lent slice of words.
+// A memory over a lent slice of words. What the slice holds beyond 61,440 octets is not part of it.
 #[derive(Drop)]
 pub struct Words<'a> {
     cells: &'a mut [u16],
-    ghost few: { length (now cells) ≤ 30720 },
 }
 
 impl<'a> Words<'a> {
-    // What the slice holds beyond 61,440 octets is not part of the memory.
     pub fn new(cells: &'a mut [u16]) -> Words<'a>
-        ensures { λ r. ⌜ now (r .cells) ≡ take 30720 (now (cells .entry)) ⌝ }
+        ensures { λ r. ⌜ now (r .cells) ≡ now (cells .entry) ⌝ }
     {
-        let size = cells.len().min(LIMIT / 2);
-        Words {
-            cells: &mut cells[0..size],
-        }
+        Words { cells }
+    }
+
+    // How many words count.
+    fn count(&self) -> usize
+        ensures { λ r. ⌜ r ≡ min (length (now (now (self .entry) .cells))) 30720 ⌝ }
+    {
+        self.cells.len().min(LIMIT / 2)
     }
 }
 
@@ -74,17 +77,17 @@ fn with_half(word: u16, place: u32, octet: u8) -> u16
 }
 
 pub impl Memory for Words<'_> as WordsMemory {
-    ghost octets = { λ m. halves (now (m .cells)) };
+    ghost octets = { λ m. halves (counted 30720 (now (m .cells))) };
 
-    ghost bounded = { λ m. halves-bounded (now (m .cells)) (m .few) };
+    ghost bounded = { λ m. halves-bounded (now (m .cells)) };
 
     fn size(&self) -> usize {
-        2 * self.cells.len()
+        2 * self.count()
     }
 
     fn read(&mut self, place: u32) -> Result<u8, MemoryFault> {
         let at = place as usize / 2;
-        if at < self.cells.len() {
+        if at < self.count() {
             Ok(half(self.cells[at], place))
         } else {
             Err(MemoryFault::at(place))
@@ -93,7 +96,7 @@ pub impl Memory for Words<'_> as WordsMemory {
 
     fn write(&mut self, place: u32, octet: u8) -> Result<(), MemoryFault> {
         let at = place as usize / 2;
-        if at < self.cells.len() {
+        if at < self.count() {
             self.cells[at] = with_half(self.cells[at], place, octet);
             Ok(())
         } else {
