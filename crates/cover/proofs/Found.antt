@@ -15,7 +15,7 @@ use Rattle.std.proofs.shelf.Lists.{at-drop-more, at-drop-all}
 use Rattle.cover.specs.Lowest.{covers, lowest-from, Covers, Lowest}
 
 module _ {E : Type 0} (low high : E → ℕ) (place : ℕ) where
-  covers-true : (e : E) → low e ≤ place → place ≤ high e → covers low high place e ≡ true
+  pub covers-true : (e : E) → low e ≤ place → place ≤ high e → covers low high place e ≡ true
   covers-true e l h = and-from _ _ (le-leb (low e) place l) (le-leb place (high e) h)
 
   -- one entry more, which does not cover
