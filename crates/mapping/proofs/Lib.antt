@@ -1,0 +1,3 @@
+mod Masks
+mod Registers
+pub mod Servers
