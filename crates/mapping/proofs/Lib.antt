@@ -1,3 +1,5 @@
-mod Masks
+pub mod Landed
+pub mod Masks
 mod Registers
 pub mod Servers
+pub mod Steps

@@ -30,9 +30,12 @@ abbrev pub allows : Entity → Direction → Bool
 allows e Read = e .reads
 allows e Write = e .writes
 
+abbrev pub works : Direction → Entity → Bool
+works d e = e .active && (allows e d && ltb 0 (e .length))
+
 -- the logical bits of an active entity of the direction; none of any other, or if it ends before it begins
 abbrev pub bitsCovered : Direction → Entity → BitRange
-bitsCovered d e = cond (e .active && (allows e d && ltb 0 (e .length))) (record { first = firstBit e; last = lastBit e }) (record { first = 1; last = 0 })
+bitsCovered d e = cond (works d e) (record { first = firstBit e; last = lastBit e }) (record { first = 1; last = 0 })
 
 abbrev pub firstCovered : Direction → Entity → ℕ
 firstCovered d e = bitsCovered d e .first
@@ -56,10 +59,6 @@ abbrev pub is : ℕ → Option ℕ → Bool
 is n None = false
 is n (Some m) = eqb n m
 
--- the bits of logical octet a that entity n serves and that land in physical octet p
-abbrev pub sharedBits : List Entity → Direction → (a n : ℕ) → Entity → (p : ℕ) → ℕ
-sharedBits es d a n e p = octetOf (λ i. is n (server es d (8 * a + i)) && eqb (lands e (8 * a + i) / 8) p)
-
 -- of the bits of a mask, those that land in physical octet p
 abbrev pub landingIn : Entity → (a bits p : ℕ) → ℕ
 landingIn e a bits p = octetOf (λ i. bitAt bits i && eqb (lands e (8 * a + i) / 8) p)
@@ -68,16 +67,30 @@ landingIn e a bits p = octetOf (λ i. bitAt bits i && eqb (lands e (8 * a + i) /
 abbrev pub accessFor : (p bits turn : ℕ) → List Access
 accessFor p bits turn = cond (eqb bits 0) [] (record { address = p; share = shareOf bits turn } ∷ [])
 
--- the accesses of logical octet a, by entity, then by address: its bits land in two neighbouring octets at most
+-- the accesses of the bits of a mask through an entity: they land in two neighbouring octets at most
+abbrev pub landedFrom : Entity → (a bits : ℕ) → List Access
+landedFrom e a bits =
+    accessFor (lands e (8 * a) / 8) (landingIn e a bits (lands e (8 * a) / 8)) (turnOf e)
+    ++ accessFor (lands e (8 * a) / 8 + 1) (landingIn e a bits (lands e (8 * a) / 8 + 1)) (turnOf e)
+
+-- the bits of logical octet a that entity n serves
+abbrev pub servedBits : List Entity → Direction → (a n : ℕ) → ℕ
+servedBits es d a n = octetOf (λ i. is n (server es d (8 * a + i)))
+
+-- the accesses of logical octet a, by entity, then by address
 abbrev pub mappedFrom : List Entity → Direction → (a n : ℕ) → List Entity → List Access
 mappedFrom es d a n [] = []
-mappedFrom es d a n (e ∷ rest) =
-    accessFor (lands e (8 * a) / 8) (sharedBits es d a n e (lands e (8 * a) / 8)) (turnOf e)
-    ++ (accessFor (lands e (8 * a) / 8 + 1) (sharedBits es d a n e (lands e (8 * a) / 8 + 1)) (turnOf e)
-    ++ mappedFrom es d a (n + 1) rest)
+mappedFrom es d a n (e ∷ rest) = landedFrom e a (servedBits es d a n) ++ mappedFrom es d a (n + 1) rest
 
 abbrev pub mappedAccesses : List Entity → Direction → ℕ → List Access
 mappedAccesses es d a = mappedFrom es d a 0 es
+
+-- the logical octets that an entity lies in
+abbrev pub firstOctet : Entity → ℕ
+firstOctet e = cond (eqb (e .length) 0) 1 (e .logical)
+
+abbrev pub lastOctet : Entity → ℕ
+lastOctet e = cond (eqb (e .length) 0) 0 (e .logical + e .length - 1)
 
 -- the list that a value of `Accesses` holds
 abbrev pub listed : Accesses → List Access
