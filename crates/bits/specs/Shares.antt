@@ -28,6 +28,11 @@ abbrev pub stored : Share → (old o : ℕ) → ℕ
 stored Whole old o = o
 stored (Part bits turn) old o = octetOf (λ j. cond (bitAt bits (logicalBit turn j)) (bitAt o (logicalBit turn j)) (bitAt old j))
 
+-- the access has a part of its octet and not the whole
+abbrev pub splits : Share → Bool
+splits Whole = false
+splits (Part bits turn) = true
+
 -- logical bit i is among the access's bits
 abbrev pub has : Share → ℕ → Bool
 has Whole i = true

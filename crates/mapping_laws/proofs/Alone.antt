@@ -14,13 +14,13 @@ use Rattle.access.specs.declared.Direction.{Direction}
 use Rattle.bits.specs.declared.share.Share.{Share}
 use Rattle.bits.specs.declared.share.Share.the-variants.{Whole, Part}
 use Rattle.bits.specs.Bits.{bitAt, octetOf}
-use Rattle.bits.specs.Shares.{shareOf}
+use Rattle.bits.specs.Shares.{shareOf, splits}
 use Rattle.bits.proofs.Octets.{bit-of, bit-full, octet-none, reads}
 use Rattle.mapping.specs.declared.entity.Entity.{Entity}
 use Rattle.mapping.specs.declared.accesses.Access.{Access}
 use Rattle.mapping.specs.Mapping.{server, is, lands, turnOf, landingIn, accessFor, landedFrom, servedBits, mappedFrom}
 use Rattle.mapping.proofs.Steps.{landed-none}
-use Rattle.mapping_laws.specs.Whole.{splits, All-parts, Sole, Sole-whole}
+use Rattle.mapping_laws.specs.Whole.{All-parts, Sole, Sole-whole}
 
 parts-join : (xs ys : List Access) → All-parts xs → All-parts ys → All-parts (xs ++ ys)
 parts-join [] ys h g = g
@@ -33,13 +33,13 @@ access-part : (p b t : ℕ) → (b ≡ 255 → ⊥) → All-parts (accessFor p b
 access-part p b t less = cond-both (eqb b 0) [] (record { address = p; share = shareOf b t } ∷ []) All-parts (λ z. tt) (λ z. (part-of b t less, tt))
 
 -- at most one entity serves a bit
-apart : (r : Option ℕ) (n m : ℕ) → is n r ≡ true → n ≢ m → is m r ≡ false
-apart None n m t ne = absurd (both-ways false refl t)
-apart (Some k) n m t ne = let here = eqb-true n k t in ne-eqb m k (λ e. ne (here ∙ sym e))
+pub only : (r : Option ℕ) (n m : ℕ) → is n r ≡ true → n ≢ m → is m r ≡ false
+only None n m t ne = absurd (both-ways false refl t)
+only (Some k) n m t ne = let here = eqb-true n k t in ne-eqb m k (λ e. ne (here ∙ sym e))
 
 -- an octet whose eight bits land together
 module _ (e : Entity) (a b p : ℕ) (all : landingIn e a b p ≡ 255) where
-  together : (i : ℕ) → i < 8 → (bitAt b i ≡ true) × (lands e (8 * a + i) / 8 ≡ p)
+  pub together : (i : ℕ) → i < 8 → (bitAt b i ≡ true) × (lands e (8 * a + i) / 8 ≡ p)
   together i h =
       let both = and-parts (bitAt b i) (eqb (lands e (8 * a + i) / 8) p) (sym (bit-of 8 (λ i. bitAt b i && eqb (lands e (8 * a + i) / 8) p) i h) ∙ ap (λ n. bitAt n i) all ∙ bit-full i h) in
       (both .0, eqb-true (lands e (8 * a + i) / 8) p (both .1))
@@ -56,7 +56,7 @@ module _ (es : List Entity) (d : Direction) (a : ℕ) where
   -- then no other entity makes an access
   unserved : (n m : ℕ) → n ≢ m → By n → servedBits es d a m ≡ 0
   unfolding By
-  unserved n m ne by = sym (octet-none (λ i. is m (server es d (8 * a + i))) (λ i h. apart (server es d (8 * a + i)) n m (by i h) ne))
+  unserved n m ne by = sym (octet-none (λ i. is m (server es d (8 * a + i))) (λ i h. only (server es d (8 * a + i)) n m (by i h) ne))
 
   nothing : (n m : ℕ) (e : Entity) → n ≢ m → By n → landedFrom e a (servedBits es d a m) ≡ []
   nothing n m e ne by = ap (landedFrom e a) (unserved n m ne by) ∙ sym (landed-none e a)

@@ -1,1 +1,4 @@
 pub mod Alone
+pub mod Cases
+pub mod Landings
+pub mod Lowest

@@ -1,1 +1,4 @@
+pub mod Lands
+pub mod Serves
 pub mod Whole
+pub mod Worked

@@ -1,20 +1,15 @@
 -- A whole-octet access stands alone. Assumes nothing.
 use mathlib.Core.Path.{_≡_}
-use mathlib.Core.Bool.{Bool, true, false}
+use mathlib.Core.Bool.{true}
 use mathlib.Core.Logic.{_⊎_}
 use mathlib.Core.List.{List, [], _∷_}
 use Prim.Native.Nat.{ℕ}
 use Rattle.access.specs.declared.Direction.{Direction}
-use Rattle.bits.specs.declared.share.Share.{Share}
-use Rattle.bits.specs.declared.share.Share.the-variants.{Whole, Part}
+use Rattle.bits.specs.declared.share.Share.the-variants.{Whole}
+use Rattle.bits.specs.Shares.{splits}
 use Rattle.mapping.specs.declared.entity.Entity.{Entity}
 use Rattle.mapping.specs.declared.accesses.Access.{Access}
 use Rattle.mapping.specs.Mapping.{mappedAccesses}
-
--- the access has a part of its octet and not the whole
-abbrev pub splits : Share → Bool
-splits Whole = false
-splits (Part bits turn) = true
 
 abbrev pub All-parts : List Access → Type 0
 All-parts [] = Unit {0}
