@@ -1,4 +1,5 @@
 pub mod Lands
+pub mod Moves
 pub mod Serves
 pub mod Whole
 pub mod Worked

@@ -1,30 +1,14 @@
--- The accesses of a logical octet on a memory, and worked cases. Assumes nothing.
+-- An entity worked by hand. Assumes nothing.
 use mathlib.Core.Path.{_≡_}
-use mathlib.Core.Bool.{true, cond}
-use mathlib.Core.List.{List, [], _∷_}
-use Prim.Native.Nat.{ℕ, _+_, _*_}
-use lib.Dec.{eqb}
+use mathlib.Core.Bool.{true}
+use mathlib.Core.List.{List, _∷_}
+use Prim.Native.Nat.{ℕ}
 use lib.ListN.{replicate}
 use Rattle.access.specs.declared.Direction.the-variants.{Read, Write}
-use Rattle.bits.specs.Shares.{laid, stored}
 use Rattle.mapping.specs.declared.entity.Entity.{Entity}
-use Rattle.mapping.specs.declared.accesses.Access.{Access}
 use Rattle.mapping.specs.Registers.{noEntity}
 use Rattle.mapping.specs.Mapping.{mappedAccesses}
-
--- a memory tells the octet at each physical address; gathering lays what is fetched into the logical octet o, access after access
-abbrev pub gathered : (ℕ → ℕ) → List Access → (o : ℕ) → ℕ
-gathered m [] o = o
-gathered m (x ∷ xs) o = gathered m xs (laid (x .share) o (m (x .address)))
-
--- the memory with one octet set
-abbrev pub put : (ℕ → ℕ) → (p v : ℕ) → ℕ → ℕ
-put m p v q = cond (eqb q p) v (m q)
-
--- scattering stores the logical octet o, access after access
-abbrev pub scattered : (o : ℕ) → List Access → (ℕ → ℕ) → ℕ → ℕ
-scattered o [] m = m
-scattered o (x ∷ xs) m = scattered o xs (put m (x .address) (stored (x .share) (m (x .address)) o))
+use Rattle.mapping_laws.specs.Moves.{gathered, scattered, put}
 
 -- logical 0x2000, length 2, bits 6 to 1, physical 0x1100 bit 2, of both directions, beside entities that are not used
 abbrev pub workedEntities : List Entity

@@ -1,5 +1,6 @@
 // Laws of the mapping, each carried by the contract of a function.
 ghost use Rattle.mapping_laws.specs.Lands.{Each-bit-lands-once};
+ghost use Rattle.mapping_laws.specs.Moves.{Written-bits-come-back};
 ghost use Rattle.mapping_laws.specs.Serves.{Every-bit-served-by-one};
 ghost use Rattle.mapping_laws.specs.Whole.{Sole-whole};
 ghost use Rattle.mapping_laws.specs.Worked.{All-worked-cases};
@@ -22,6 +23,13 @@ pub fn bits_land_once() -> u8
 // A whole-octet access is the only access of its logical octet in that direction.
 pub fn whole_is_alone() -> u8
     ensures { λ _. ⌜ Sole-whole ⌝ }
+{
+    0
+}
+
+// Bits written and read back through the same entity come back, and every other bit of the physical octets is as it was.
+pub fn written_bits_come_back() -> u8
+    ensures { λ _. ⌜ Written-bits-come-back ⌝ }
 {
     0
 }
