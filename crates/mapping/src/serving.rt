@@ -4,10 +4,12 @@ ghost use mathlib.Core.Bool.{_&&_};
 ghost use Prim.Native.Nat.{_+_, _*_};
 ghost use lib.Dec.{leb};
 ghost use Rattle.bits.specs.Bits.{octetOf};
-ghost use Rattle.mapping.specs.Mapping.{allows, bitsCovered};
+ghost use mathlib.Core.List.{map};
+ghost use Rattle.mapping.specs.Mapping.{allows, bitsCovered, server};
 use crate::entity::Entity;
 use access::Direction;
 use cover::Span;
+use cover::lowest_covering;
 
 // Logical bits from the first to the last; none, if the last stands before the first.
 #[derive(Clone, Copy, PartialEq, Eq, Debug)]
@@ -73,4 +75,27 @@ impl Entity {
             last: if last < BITS { last } else { BITS - 1 },
         }
     }
+}
+
+fn ranges(entities: &[Entity; 8], direction: Direction) -> [BitRange; 8]
+    ensures { λ r. ⌜ r ≡ map (bitsCovered direction) (now (entities .entry)) ⌝ }
+{
+    [
+        entities[0].bits_covered(direction),
+        entities[1].bits_covered(direction),
+        entities[2].bits_covered(direction),
+        entities[3].bits_covered(direction),
+        entities[4].bits_covered(direction),
+        entities[5].bits_covered(direction),
+        entities[6].bits_covered(direction),
+        entities[7].bits_covered(direction),
+    ]
+}
+
+// The entity that serves a logical bit: the lowest active one of the direction that covers it.
+pub fn server(entities: &[Entity; 8], direction: Direction, bit: u64) -> Option<usize>
+    ensures { λ r. ⌜ r ≡ server (now (entities .entry)) direction bit ⌝ }
+{
+    let ranges = ranges(entities, direction);
+    lowest_covering(&ranges, bit)
 }

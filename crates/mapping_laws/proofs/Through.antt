@@ -8,7 +8,6 @@ use native.Mathlib.Omega.{arith}
 use lib.Dec.{eqb}
 use Rattle.std.proofs.shelf.Tests.{and-parts, and-right, cases-bool, cases-eq, eqb-true, eq-eqb, ne-eqb}
 use Rattle.std.proofs.shelf.Ways.{tells}
-use Rattle.bits.specs.declared.share.Share.{Share}
 use Rattle.bits.specs.declared.share.Share.the-variants.{Whole, Part}
 use Rattle.bits.specs.Bits.{bitAt, octetOf}
 use Rattle.bits.specs.Shares.{shareOf, laid, stored, physicalBit, logicalBit}
