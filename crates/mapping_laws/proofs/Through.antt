@@ -108,15 +108,15 @@ module _ (e : Entity) (a b : ℕ) (started : (i : ℕ) → i < 8 → bitAt b i �
       ∙ ap (λ z. cond (bitAt b i && eqb (octet i) (near + 1)) (bitAt (m (near + 1)) (physicalBit turn i)) z) (got near o)
       ∙ seen (bitAt b i) (started i h)
     where
-    seen : (c : Bool) → (c ≡ true → firstBit e ≤ 8 * a + i) → cond (c && eqb (octet i) (near + 1)) (bitAt (m (near + 1)) (physicalBit turn i)) (cond (c && eqb (octet i) near) (bitAt (m near) (physicalBit turn i)) (bitAt o i)) ≡ cond c (bitAt (m (octet i)) (lands e (8 * a + i) % 8)) (bitAt o i)
-    seen false from = refl
-    seen true from =
-        let begun = from refl in
-        let place : physicalBit turn i ≡ lands e (8 * a + i) % 8 = omega arith in
-        ⊎-elim
-        (λ same. let far : (octet i ≡ near + 1) → ⊥ = λ g. omega arith in (λ k. cond (ne-eqb (octet i) (near + 1) far k) (bitAt (m (near + 1)) (physicalBit turn i)) (cond (eq-eqb (octet i) near same k) (bitAt (m (sym same k)) (place k)) (bitAt o i))))
-        (λ other. let far : octet i ≡ near + 1 = omega arith in (λ k. cond (eq-eqb (octet i) (near + 1) far k) (bitAt (m (sym far k)) (place k)) (cond (eqb (octet i) near) (bitAt (m near) (physicalBit turn i)) (bitAt o i))))
-        (cases-eq (octet i) near)
+      seen : (c : Bool) → (c ≡ true → firstBit e ≤ 8 * a + i) → cond (c && eqb (octet i) (near + 1)) (bitAt (m (near + 1)) (physicalBit turn i)) (cond (c && eqb (octet i) near) (bitAt (m near) (physicalBit turn i)) (bitAt o i)) ≡ cond c (bitAt (m (octet i)) (lands e (8 * a + i) % 8)) (bitAt o i)
+      seen false from = refl
+      seen true from =
+          let begun = from refl in
+          let place : physicalBit turn i ≡ lands e (8 * a + i) % 8 = omega arith in
+          ⊎-elim
+          (λ same. let far : (octet i ≡ near + 1) → ⊥ = λ g. omega arith in (λ k. cond (ne-eqb (octet i) (near + 1) far k) (bitAt (m (near + 1)) (physicalBit turn i)) (cond (eq-eqb (octet i) near same k) (bitAt (m (sym same k)) (place k)) (bitAt o i))))
+          (λ other. let far : octet i ≡ near + 1 = omega arith in (λ k. cond (eq-eqb (octet i) (near + 1) far k) (bitAt (m (sym far k)) (place k)) (cond (eqb (octet i) near) (bitAt (m near) (physicalBit turn i)) (bitAt o i))))
+          (cases-eq (octet i) near)
 
   module _ (o : ℕ) (m : ℕ → ℕ) where
     sent : (i : ℕ) → i < 8 → bitAt b i ≡ true → bitAt (scattered o both m (octet i)) (lands e (8 * a + i) % 8) ≡ bitAt o i
