@@ -76,17 +76,15 @@ merged w o m i hm hi =
 merged-lt : (w o m : ℕ) → w < 256 → m < 256 → bitOr (bitAnd w (255 - m)) (bitAnd o m) < 256
 merged-lt w o m hw hm = or-lt 8 (bitAnd w (255 - m)) (bitAnd o m) (omega (arith, and-le-l w (255 - m))) (omega (arith, and-le-r o m))
 
-pub laid-is : (s : Share) (b t o v r : ℕ) → s ≡ Part b t → b < 256 → o < 256 → v < 256 → r ≡ bitOr (v / 2 ^ (t % 8)) ((v * 2 ^ ((8 - t % 8) % 8)) % 2 ^ 8) → bitOr (bitAnd o (255 - b)) (bitAnd r b) ≡ laid s o v
-laid-is s b t o v r is hb ho hv e =
+pub laid-is : (b t o v r : ℕ) → b < 256 → o < 256 → v < 256 → r ≡ bitOr (v / 2 ^ (t % 8)) ((v * 2 ^ ((8 - t % 8) % 8)) % 2 ^ 8) → bitOr (bitAnd o (255 - b)) (bitAnd r b) ≡ laid (Part b t) o v
+laid-is b t o v r hb ho hv e =
     is-octet (bitOr (bitAnd o (255 - b)) (bitAnd r b)) (λ i. cond (bitAt b i) (bitAt v (physicalBit t i)) (bitAt o i)) (merged-lt o r b ho hb)
     (λ i h. merged o r b i hb h ∙ ap (λ z. cond (bitAt b i) z (bitAt o i)) (rotr-bit v t i r hv h e))
-    ∙ ap (λ s. laid s o v) (sym is)
 
-pub stored-is : (s : Share) (b t old o r q : ℕ) → s ≡ Part b t → b < 256 → old < 256 → o < 256 → r < 256 → r ≡ bitOr ((b * 2 ^ (t % 8)) % 2 ^ 8) (b / 2 ^ ((8 - t % 8) % 8)) → q ≡ bitOr ((o * 2 ^ (t % 8)) % 2 ^ 8) (o / 2 ^ ((8 - t % 8) % 8)) → bitOr (bitAnd old (255 - r)) (bitAnd q r) ≡ stored s old o
-stored-is s b t old o r q is hb hold ho hr er eq =
+pub stored-is : (b t old o r q : ℕ) → b < 256 → old < 256 → o < 256 → r < 256 → r ≡ bitOr ((b * 2 ^ (t % 8)) % 2 ^ 8) (b / 2 ^ ((8 - t % 8) % 8)) → q ≡ bitOr ((o * 2 ^ (t % 8)) % 2 ^ 8) (o / 2 ^ ((8 - t % 8) % 8)) → bitOr (bitAnd old (255 - r)) (bitAnd q r) ≡ stored (Part b t) old o
+stored-is b t old o r q hb hold ho hr er eq =
     is-octet (bitOr (bitAnd old (255 - r)) (bitAnd q r)) (λ j. cond (bitAt b (logicalBit t j)) (bitAt o (logicalBit t j)) (bitAt old j)) (merged-lt old q r hold hr)
     (λ j h. merged old q r j hr h ∙ (λ k. cond (rotl-bit b t j r hb h er k) (rotl-bit o t j q ho h eq k) (bitAt old j)))
-    ∙ ap (λ s. stored s old o) (sym is)
 
 -- the two turns undo one another
 there-back : (t i : ℕ) → i < 8 → logicalBit t (physicalBit t i) ≡ i

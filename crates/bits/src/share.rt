@@ -1,5 +1,6 @@
 // The part that an access has in a physical octet, and the bits that it moves between that octet and a logical one.
 ghost use mathlib.Core.Path.{_≡_};
+ghost use Rattle.bits.specs.declared.share.Share.the-variants.{Part};
 ghost use Rattle.bits.specs.Shares.{shareOf, laid, stored, All-bits-come-back};
 
 // All eight bits in their places; or the logical bits of a mask, of which bit i is bit (i + turn) % 8 of the physical octet.
@@ -27,9 +28,7 @@ impl Share {
     {
         match self {
             Share::Whole => fetched,
-            Share::Part { bits, turn } => {
-                (octet & !bits) | (fetched.rotate_right(turn as u32) & bits)
-            }
+            Share::Part { bits, turn } => part_laid(bits, turn, octet, fetched),
         }
     }
 
@@ -39,12 +38,22 @@ impl Share {
     {
         match self {
             Share::Whole => octet,
-            Share::Part { bits, turn } => {
-                let places = bits.rotate_left(turn as u32);
-                (old & !places) | (octet.rotate_left(turn as u32) & places)
-            }
+            Share::Part { bits, turn } => part_stored(bits, turn, old, octet),
         }
     }
+}
+
+fn part_laid(bits: u8, turn: u8, octet: u8, fetched: u8) -> u8
+    ensures { λ r. ⌜ r ≡ laid (Part bits turn) octet fetched ⌝ }
+{
+    (octet & !bits) | (fetched.rotate_right(turn as u32) & bits)
+}
+
+fn part_stored(bits: u8, turn: u8, old: u8, octet: u8) -> u8
+    ensures { λ r. ⌜ r ≡ stored (Part bits turn) old octet ⌝ }
+{
+    let places = bits.rotate_left(turn as u32);
+    (old & !places) | (octet.rotate_left(turn as u32) & places)
 }
 
 // Bits stored and fetched again come back, and no other bit moves.

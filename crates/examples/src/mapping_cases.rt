@@ -3,11 +3,11 @@
 mod tests {
     use access::Direction;
     use bits::share::Share;
-    use mapping::accesses::Access;
-    use mapping::accesses::AccessDebug;
-    use mapping::accesses::AccessPartialEq;
     use mapping::accesses::accesses_at;
     use mapping::entity::Entity;
+    use mapping::mapped::Access;
+    use mapping::mapped::AccessDebug;
+    use mapping::mapped::AccessPartialEq;
     use mapping::serving::server;
     use std::test::*;
 

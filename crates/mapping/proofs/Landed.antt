@@ -12,7 +12,7 @@ use Rattle.std.proofs.shelf.Tests.{ne-eqb}
 use Rattle.bits.specs.declared.share.Share.{Share}
 use Rattle.bits.specs.Shares.{shareOf}
 use Rattle.mapping.specs.declared.entity.Entity.{Entity}
-use Rattle.mapping.specs.declared.accesses.Access.{Access}
+use Rattle.mapping.specs.declared.mapped.Access.{Access}
 use Rattle.mapping.specs.Mapping.{lands, turnOf, accessFor, landingIn, landedFrom}
 
 abbrev access : ℕ → Share → Access

@@ -19,15 +19,16 @@ use Rattle.cover.specs.Lowest.{covers, Covers, Lowest}
 use Rattle.bits.specs.Bits.{bitAt, octetOf}
 use Rattle.bits.proofs.Octets.{bits-lt, bit-zero, bit-and, octet-same, octet-none, reads}
 use Rattle.mapping.specs.declared.entity.Entity.{Entity}
-use Rattle.mapping.specs.declared.accesses.Access.{Access}
+use Rattle.mapping.specs.declared.mapped.Access.{Access}
 use Rattle.mapping.specs.declared.serving.BitRange.{BitRange}
 use Rattle.mapping.specs.Registers.{noEntity}
-use Rattle.mapping.specs.Mapping.{firstBit, lastBit, allows, works, bitsCovered, firstCovered, lastCovered, firstOctet, lastOctet, server, is, lands, turnOf, landingIn, accessFor, landedFrom, servedBits, mappedFrom, mappedAccesses}
+use Rattle.mapping.specs.Mapping.{firstBit, lastBit, allows, works, bitsCovered, firstOctet, lastOctet, server, is, lands, turnOf, landingIn, accessFor, landedFrom, servedBits, mappedFrom, mappedAccesses}
+use Rattle.mapping.proofs.Ranges.{firstCovered, lastCovered, server-is}
 use Rattle.mapping.proofs.Servers.{some, lowest, found-lowest, Free, free-fits, free-none, free-more, share-is}
 
 -- what a search among the entities from one on found
-pub searched : (es : List Entity) (n a : ℕ) (r : Option ℕ) → length es ≡ 8 → Lowest firstOctet lastOctet a (take (8 - n) (drop n es)) r → Lowest firstOctet lastOctet a (drop n es) r
-searched es n a r long law = subst (λ xs. Lowest firstOctet lastOctet a xs r) (ap (λ m. take (m - n) (drop n es)) (sym long) ∙ take-rest es n) law
+pub searched : (es : List Entity) (n a : ℕ) (r : Option ℕ) → Lowest firstOctet lastOctet a (take (length es - n) (drop n es)) r → Lowest firstOctet lastOctet a (drop n es) r
+searched es n a r law = subst (λ xs. Lowest firstOctet lastOctet a xs r) (take-rest es n) law
 
 -- what covering a bit tells of an entity
 module _ (d : Direction) (e : Entity) (b : ℕ) where
@@ -54,8 +55,8 @@ elsewhere : (d : Direction) (e : Entity) (a i : ℕ) → i < 8 → (Covers first
 elsewhere d e a i h out = ⊎-elim (λ t. absurd (out (lies-in d e a i h t))) (λ f. f) (cases-bool (covers (firstCovered d) (lastCovered d) (8 * a + i) e))
 
 -- an entity that lies in an octet has it among its own
-pub within : (e : Entity) (a : ℕ) → Covers firstOctet lastOctet a e → (e .logical ≤ a) × (a < e .logical + e .length)
-within e a (l, h) = (grind (arith, tells), grind (arith, tells))
+within : (e : Entity) (a : ℕ) → Covers firstOctet lastOctet a e → a < e .logical + e .length
+within e a (l, h) = grind (arith, tells)
 
 -- no bits make no access
 landing-none : (e : Entity) (a p : ℕ) → 0 ≡ landingIn e a 0 p
@@ -70,7 +71,7 @@ module _ (es : List Entity) (d : Direction) (a : ℕ) where
   takes i e = covers (firstCovered d) (lastCovered d) (8 * a + i) e
 
   pub served-is : (n : ℕ) → servedBits es d a n ≡ octetOf (λ i. lowest (takes i) es n)
-  served-is n = octet-same _ _ (λ i h. ap (λ m. is m (server es d (8 * a + i))) (sym (zero-add n)) ∙ found-lowest (firstCovered d) (lastCovered d) (8 * a + i) es 0 n)
+  served-is n = octet-same _ _ (λ i h. (λ k. is (sym (zero-add n) k) (server-is d (8 * a + i) es k)) ∙ found-lowest (firstCovered d) (lastCovered d) (8 * a + i) es 0 n)
 
   -- n entities are done: the bits that are left, and the accesses so far, to which the other entities add the rest
   pub record Walked (n free : ℕ) (xs : List Access) : Type 0 where
@@ -148,5 +149,5 @@ module _ (es : List Entity) (d : Direction) (a : ℕ) where
   started e y free told i h t =
       covered-from d e (8 * a + i) (sym (reads y (λ i. takes i e) told i h) ∙ and-parts (bitAt y i) (bitAt free i) (sym (bit-and y free i) ∙ t) .0)
 
-  pub found-within : (n k : ℕ) → ((e : Entity) → Covers firstOctet lastOctet a (getD (drop n es) k e)) → (getD es (n + k) noEntity .logical ≤ a) × (a < getD es (n + k) noEntity .logical + getD es (n + k) noEntity .length)
+  pub found-within : (n k : ℕ) → ((e : Entity) → Covers firstOctet lastOctet a (getD (drop n es) k e)) → a < getD es (n + k) noEntity .logical + getD es (n + k) noEntity .length
   found-within n k at = within (getD es (n + k) noEntity) a (subst (λ e. Covers firstOctet lastOctet a e) (getD-drop n es k noEntity) (at noEntity))

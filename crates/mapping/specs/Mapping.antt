@@ -1,6 +1,6 @@
 -- Which accesses one logical octet makes. Logical bit b is bit b % 8 of the logical octet b / 8, and physical bits count likewise. Assumes nothing.
 use mathlib.Core.Bool.{Bool, true, false, cond, _&&_}
-use mathlib.Core.List.{List, [], _∷_, _++_}
+use mathlib.Core.List.{List, [], _∷_, _++_, map}
 use Prim.Native.Nat.{ℕ, suc, _+_, _-_, _*_, _/_, _%_, _^_}
 use lib.Dec.{eqb, ltb}
 use lib.ListN.{take}
@@ -8,13 +8,13 @@ use Rattle.std.specs.declared.option.Option.{Option}
 use Rattle.std.specs.declared.option.Option.the-variants.{Some, None}
 use Rattle.access.specs.declared.Direction.{Direction}
 use Rattle.access.specs.declared.Direction.the-variants.{Read, Write}
-use Rattle.cover.specs.Lowest.{covers, lowest-from}
+use Rattle.cover.specs.Lowest.{lowest-from}
 use Rattle.bits.specs.Bits.{bitAt, octetOf}
 use Rattle.bits.specs.Shares.{shareOf}
 use Rattle.mapping.specs.declared.entity.Entity.{Entity}
 use Rattle.mapping.specs.declared.serving.BitRange.{BitRange}
-use Rattle.mapping.specs.declared.accesses.Access.{Access}
-use Rattle.mapping.specs.declared.accesses.Accesses.{Accesses}
+use Rattle.mapping.specs.declared.mapped.Access.{Access}
+use Rattle.mapping.specs.declared.mapped.Accesses.{Accesses}
 
 -- an entity covers from its start bit to the stop bit of its last octet, and nothing from 2^32 octets on
 abbrev pub firstBit : Entity → ℕ
@@ -37,15 +37,9 @@ works d e = e .active && (allows e d && ltb 0 (e .length))
 abbrev pub bitsCovered : Direction → Entity → BitRange
 bitsCovered d e = cond (works d e) (record { first = firstBit e; last = lastBit e }) (record { first = 1; last = 0 })
 
-abbrev pub firstCovered : Direction → Entity → ℕ
-firstCovered d e = bitsCovered d e .first
-
-abbrev pub lastCovered : Direction → Entity → ℕ
-lastCovered d e = bitsCovered d e .last
-
 -- the entity that serves a logical bit: the lowest active one of the direction that covers it
 abbrev pub server : List Entity → Direction → ℕ → Option ℕ
-server es d b = lowest-from (firstCovered d) (lastCovered d) b 0 es
+server es d b = lowest-from (λ r. r .first) (λ r. r .last) b 0 (map (bitsCovered d) es)
 
 -- covered bit k lands k bits after the physical bit
 abbrev pub lands : Entity → ℕ → ℕ

@@ -2,31 +2,18 @@
 ghost use mathlib.Core.Path.{_≡_};
 ghost use mathlib.Core.Bool.{true};
 ghost use mathlib.Core.List.{[], _++_};
-ghost use Prim.Native.Nat.{ℕ, _+_, _*_, _/_, _<_, _≤_};
+ghost use Prim.Native.Nat.{ℕ, _+_, _*_, _^_, _<_, _≤_};
+ghost use lib.ListN.{length};
 ghost use Rattle.bits.specs.Bits.{bitAt};
 ghost use Rattle.cover.specs.Lowest.{Lowest};
-ghost use Rattle.mapping.specs.Mapping.{firstBit, firstOctet, lastOctet, accessFor, landedFrom, mappedAccesses, listed};
+ghost use Rattle.mapping.specs.Mapping.{firstBit, firstOctet, lastOctet, turnOf, lands, accessFor, landedFrom, mappedAccesses, listed};
 use crate::entity::Entity;
+use crate::mapped::Access;
+use crate::mapped::Accesses;
 use access::Direction;
 use bits::share::Share;
-use bits::share::ShareDebug;
-use bits::share::SharePartialEq;
 use cover::Span;
 use cover::lowest_covering;
-
-// One access of a mapped octet: the physical octet at an address, and the part of it that the access has.
-#[derive(Clone, Copy, PartialEq, Eq, Debug)]
-pub struct Access {
-    pub address: u32,
-    pub share: Share,
-}
-
-// The accesses of a logical octet, at most two for each of the eight entities: the first `count` of the list.
-#[derive(Clone, Copy)]
-pub struct Accesses {
-    list: [Access; 16],
-    count: usize,
-}
 
 impl Accesses {
     fn none() -> Accesses
@@ -46,11 +33,7 @@ impl Accesses {
     pub fn as_slice(&self) -> &[Access]
         ensures { λ r. ⌜ now r ≡ listed (now (self .entry)) ⌝ }
     {
-        if self.count < 16 {
-            &self.list[0..self.count]
-        } else {
-            &self.list
-        }
+        &self.list[0..self.count]
     }
 
     // One access more, if there are bits for it.
@@ -62,31 +45,50 @@ impl Accesses {
         if bits == 0 {
             return self;
         }
-        let mut found = self;
-        found.list[self.count] = Access {
+        let mut list = self.list;
+        list[self.count] = Access {
             address,
             share: Share::of(bits, turn),
         };
-        found.count = self.count + 1;
-        found
+        Accesses {
+            list,
+            count: self.count + 1,
+        }
     }
 
     // The accesses of those bits of the logical octet at `address`, through the entity: the lower physical octet first.
     fn with_bits(self, entity: &Entity, address: u64, bits: u8) -> Accesses
         requires room { ⌜ self .count ≤ 14 ⌝ }
-        requires within { ⌜ now entity .logical ≤ address ⌝ ∗ ⌜ address < now entity .logical + now entity .length ⌝ }
+        requires within { ⌜ address < now entity .logical + now entity .length ⌝ }
         requires started { ⌜ ((i : ℕ) → i < 8 → bitAt bits i ≡ true → firstBit (now entity) ≤ 8 * address + i) ⌝ }
         ensures list { λ r. ⌜ listed r ≡ listed self ++ landedFrom (now (entity .entry)) address bits ⌝ }
         ensures count { λ r. ⌜ r .count ≤ self .count + 2 ⌝ }
     {
-        let start = entity.start_bit % 8;
-        let turn = (8 + entity.physical_bit % 8 - start) % 8;
-        let place = 8 * (entity.physical as u64 + address) + (entity.physical_bit % 8) as u64;
-        let first = place.saturating_sub(8 * entity.logical as u64 + start as u64);
-        let octet = (first / 8) as u32;
+        let turn = entity.turn();
+        let first = entity.landing(address);
+        let octet = first / 8;
         let front = 0xff >> (first % 8);
         self.with(octet, bits & front, turn)
             .with(octet + 1, bits & !front, turn)
+    }
+}
+
+impl Entity {
+    // How far a logical bit's place in its octet is turned where it lands.
+    fn turn(&self) -> u8
+        ensures { λ r. ⌜ r ≡ turnOf (now (self .entry)) ⌝ }
+    {
+        (8 + self.physical_bit % 8 - self.start_bit % 8) % 8
+    }
+
+    // The physical bit where bit 0 of the logical octet at `address` lands, 0 if it comes before all of them.
+    fn landing(&self, address: u64) -> u32
+        requires { ⌜ address < now self .logical + now self .length ⌝ }
+        ensures place { λ r. ⌜ r ≡ lands (now (self .entry)) (8 * address) ⌝ }
+        ensures small { λ r. ⌜ r < 2 ^ 21 ⌝ }
+    {
+        let place = 8 * (self.physical as u64 + address) + (self.physical_bit % 8) as u64;
+        place.saturating_sub(8 * self.logical as u64 + (self.start_bit % 8) as u64) as u32
     }
 }
 
@@ -120,9 +122,10 @@ fn lowest_in(entities: &[Entity], address: u64) -> Option<usize>
     lowest_covering(entities, address)
 }
 
-// The accesses of the logical octet at `address` in a direction: one for each entity that serves bits of it and each physical octet where
-// these land. Each entity that lies in the octet is looked at once, the lowest first, until every bit is served.
-pub fn accesses_at(entities: &[Entity; 8], direction: Direction, address: u64) -> Accesses
+// The accesses of the logical octet at `address` among up to eight entities: each that lies in the octet is looked at once, the lowest first,
+// until every bit is served.
+fn found_among(entities: &[Entity], direction: Direction, address: u64) -> Accesses
+    requires { ⌜ length (now entities) ≤ 8 ⌝ }
     ensures { λ r. ⌜ listed r ≡ mappedAccesses (now (entities .entry)) direction address ⌝ }
 {
     let mut found = Accesses::none();
@@ -139,4 +142,12 @@ pub fn accesses_at(entities: &[Entity; 8], direction: Direction, address: u64) -
         next += step + 1;
     }
     found
+}
+
+// The accesses of the logical octet at `address` in a direction: one for each entity that serves bits of it and each physical octet where
+// these land, by entity, then by address.
+pub fn accesses_at(entities: &[Entity; 8], direction: Direction, address: u64) -> Accesses
+    ensures { λ r. ⌜ listed r ≡ mappedAccesses (now (entities .entry)) direction address ⌝ }
+{
+    found_among(entities, direction, address)
 }

@@ -37,7 +37,7 @@ pub impl Span for BitRange as BitRangeSpan {
 
 impl BitRange {
     // Its bits in the logical octet at `address`, as a mask.
-    pub fn in_octet(self, address: u64) -> u8
+    pub(crate) fn in_octet(self, address: u64) -> u8
         ensures { λ r. ⌜ r ≡ octetOf (λ i. leb (self .first) (8 * address + i) && leb (8 * address + i) (self .last)) ⌝ }
     {
         let first = self.first / 8;

@@ -17,7 +17,7 @@ use Rattle.bits.specs.Bits.{bitAt, octetOf}
 use Rattle.bits.specs.Shares.{shareOf, splits}
 use Rattle.bits.proofs.Octets.{bit-of, bit-full, octet-none, reads}
 use Rattle.mapping.specs.declared.entity.Entity.{Entity}
-use Rattle.mapping.specs.declared.accesses.Access.{Access}
+use Rattle.mapping.specs.declared.mapped.Access.{Access}
 use Rattle.mapping.specs.Mapping.{server, is, lands, turnOf, landingIn, accessFor, landedFrom, servedBits, mappedFrom}
 use Rattle.mapping.proofs.Steps.{landed-none}
 use Rattle.mapping_laws.specs.Whole.{All-parts, Sole, Sole-whole}

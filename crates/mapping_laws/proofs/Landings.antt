@@ -15,20 +15,21 @@ use Rattle.std.proofs.shelf.Tests.{and-parts, cases-bool, cases-lt, cases-eq, e
 use Rattle.std.proofs.shelf.Ways.{tells}
 use Rattle.access.specs.declared.Direction.{Direction}
 use Rattle.cover.specs.Lowest.{Lowest}
-use Rattle.cover.proofs.Found.{lowest-law}
 use Rattle.bits.specs.declared.share.Share.{Share}
 use Rattle.bits.specs.declared.share.Share.the-variants.{Whole, Part}
 use Rattle.bits.specs.Bits.{bitAt, octetOf}
 use Rattle.bits.specs.Shares.{shareOf, has, turnIn, physicalBit}
 use Rattle.bits.proofs.Octets.{bit-of, bit-zero, bit-full}
 use Rattle.mapping.specs.declared.entity.Entity.{Entity}
-use Rattle.mapping.specs.declared.accesses.Access.{Access}
+use Rattle.mapping.specs.declared.mapped.Access.{Access}
 use Rattle.mapping.specs.Registers.{noEntity}
-use Rattle.mapping.specs.Mapping.{firstBit, firstCovered, lastCovered, server, is, lands, turnOf, landingIn, accessFor, landedFrom, servedBits, mappedFrom}
+use Rattle.mapping.specs.Mapping.{firstBit, server, is, lands, turnOf, landingIn, accessFor, landedFrom, servedBits, mappedFrom}
+use Rattle.mapping.proofs.Ranges.{firstCovered, lastCovered, server-is}
 use Rattle.mapping.proofs.Servers.{some, found-lowest, holds-read, holdsAt}
 use Rattle.mapping.proofs.Steps.{takes, covered-from}
 use Rattle.mapping_laws.specs.Lands.{landings, landedBy, Each-bit-lands-once}
 use Rattle.mapping_laws.proofs.Alone.{together}
+use Rattle.mapping_laws.proofs.Lowest.{server-law}
 
 join-at : (t : Bool) (x : ℕ) (xs ys zs : List ℕ) → zs ≡ xs ++ ys → cond t (x ∷ zs) zs ≡ cond t (x ∷ xs) xs ++ ys
 join-at true x xs ys zs e = ap (λ z. x ∷ z) e
@@ -95,7 +96,7 @@ module _ (es : List Entity) (d : Direction) (a : ℕ) where
   -- the bits that an entity serves, it covers
   pub served-from : (n : ℕ) → n < length es → (i : ℕ) → i < 8 → bitAt (servedBits es d a n) i ≡ true → firstBit (getD es n noEntity) ≤ 8 * a + i
   served-from n h i l t =
-      let serves : (holdsAt (takes es d a i) es n && not (some (takes es d a i) (take n es))) ≡ true = sym (found-lowest (firstCovered d) (lastCovered d) (8 * a + i) es 0 n) ∙ ap (λ m. is m (server es d (8 * a + i))) (zero-add n) ∙ sym (bit-of 8 (λ i. is n (server es d (8 * a + i))) i l) ∙ t in
+      let serves : (holdsAt (takes es d a i) es n && not (some (takes es d a i) (take n es))) ≡ true = sym (found-lowest (firstCovered d) (lastCovered d) (8 * a + i) es 0 n) ∙ (λ k. is (zero-add n k) (sym (server-is d (8 * a + i) es) k)) ∙ sym (bit-of 8 (λ i. is n (server es d (8 * a + i))) i l) ∙ t in
       covered-from d (getD es n noEntity) (8 * a + i) (sym (holds-read (takes es d a i) es n noEntity h) ∙ and-parts _ _ serves .0)
 
   module _ (i : ℕ) (place : i < 8) where
@@ -120,11 +121,11 @@ module _ (es : List Entity) (d : Direction) (a : ℕ) where
         (cases-eq n m)
 
     from : (k n : ℕ) → length es ≤ n + k → landings i (mappedFrom es d a n (drop n es)) ≡ after n (server es d b)
-    from zero n h = ap (landings i) (at-drop-all (mappedFrom es d a n) es n (omega arith)) ∙ past n (server es d b) (omega arith) (lowest-law (firstCovered d) (lastCovered d) b es)
+    from zero n h = ap (landings i) (at-drop-all (mappedFrom es d a n) es n (omega arith)) ∙ past n (server es d b) (omega arith) (server-law es d b)
     from (suc k) n h =
         ⊎-elim
         (λ less. let here : mappedFrom es d a n (drop n es) ≡ landedFrom (getD es n noEntity) a (servedBits es d a n) ++ mappedFrom es d a (n + 1) (drop (n + 1) es) = at-drop-more (mappedFrom es d a n) es n noEntity less in ap (landings i) here ∙ landings-join i (landedFrom (getD es n noEntity) a (servedBits es d a n)) (mappedFrom es d a (n + 1) (drop (n + 1) es)) ∙ (λ j. (entity-lands (getD es n noEntity) a (servedBits es d a n) (served-from n less) i place ∙ ap (λ z. cond z (lands (getD es n noEntity) b ∷ []) []) (bit-of 8 (λ i. is n (server es d (8 * a + i))) i place)) j ++ from k (n + 1) (omega arith) j) ∙ step n (server es d b))
-        (λ over. ap (landings i) (at-drop-all (mappedFrom es d a n) es n over) ∙ past n (server es d b) over (lowest-law (firstCovered d) (lastCovered d) b es))
+        (λ over. ap (landings i) (at-drop-all (mappedFrom es d a n) es n over) ∙ past n (server es d b) over (server-law es d b))
         (cases-lt n (length es))
 
     all : (r : Option ℕ) → after 0 r ≡ landedBy es b r

@@ -15,10 +15,11 @@ use Rattle.std.proofs.shelf.Tests.{cases-order, and-parts, and-from, le-leb, le
 use Rattle.std.proofs.shelf.Ways.{tells}
 use Rattle.access.specs.declared.Direction.{Direction}
 use Rattle.cover.specs.Lowest.{covers, Covers, Lowest}
-use Rattle.cover.proofs.Found.{lowest-law, covers-true}
+use Rattle.cover.proofs.Found.{law-at, covers-true}
 use Rattle.mapping.specs.declared.entity.Entity.{Entity}
 use Rattle.mapping.specs.Registers.{noEntity}
-use Rattle.mapping.specs.Mapping.{firstBit, stopBit, lastBit, allows, works, firstCovered, lastCovered, server, lands}
+use Rattle.mapping.specs.Mapping.{firstBit, stopBit, lastBit, allows, works, server, lands}
+use Rattle.mapping.proofs.Ranges.{firstCovered, lastCovered, server-is}
 use Rattle.mapping.proofs.Steps.{covering}
 use Rattle.mapping_laws.specs.Serves.{Covers-bit, Serves, Served-by-one, Every-bit-served-by-one}
 
@@ -36,6 +37,10 @@ module _ (d : Direction) (b : ℕ) (e : Entity) where
       let both = and-parts _ _ (covering d e b ∙ known) in
       (leb-true _ _ (both .0), leb-true _ _ (both .1))
 
+-- the search among the ranges has the law of the lowest
+pub server-law : (es : List Entity) (d : Direction) (b : ℕ) → Lowest (firstCovered d) (lastCovered d) b es (server es d b)
+server-law es d b = law-at (firstCovered d) (lastCovered d) b es (server es d b) (server-is d b es)
+
 pub told-by-rule : (es : List Entity) (d : Direction) (b : ℕ) (r : Option ℕ) → Lowest (firstCovered d) (lastCovered d) b es r → Cases r (Every (λ e. Covers-bit d b e → ⊥) es 0 (length es)) (λ n. Serves es d b n)
 told-by-rule es d b None every = λ k e l h c. every k e l h (bit-covered d b _ c)
 told-by-rule es d b (Some n) (h, at, every) = (h, (λ e. covers-bit d b _ (at e)), (λ k e l g c. every k e l g (bit-covered d b _ c)))
@@ -52,7 +57,7 @@ lands-apart d e b c hb hc same = let from = hb .begun in let from′ = hc .begun
 pub every-bit-served-by-one : Every-bit-served-by-one
 every-bit-served-by-one es d =
     record {
-      told = λ b. told-by-rule es d b (server es d b) (lowest-law (firstCovered d) (lastCovered d) b es);
+      told = λ b. told-by-rule es d b (server es d b) (server-law es d b);
       one = one-serves es d;
       apart = lands-apart d;
     }

@@ -13,7 +13,7 @@ use Rattle.bits.specs.Bits.{bitAt, octetOf}
 use Rattle.bits.specs.Shares.{shareOf, laid, stored, physicalBit, logicalBit}
 use Rattle.bits.proofs.Octets.{bit-of, bit-zero, bit-full}
 use Rattle.mapping.specs.declared.entity.Entity.{Entity}
-use Rattle.mapping.specs.declared.accesses.Access.{Access}
+use Rattle.mapping.specs.declared.mapped.Access.{Access}
 use Rattle.mapping.specs.Mapping.{firstBit, lands, turnOf, landingIn, accessFor, landedFrom}
 use Rattle.mapping_laws.specs.Moves.{put, gathered, scattered, Comes-back, Written-bits-come-back}
 use Rattle.mapping_laws.proofs.Landings.{straight}

@@ -9,7 +9,7 @@ use Rattle.std.specs.declared.option.Option.the-variants.{Some, None}
 use Rattle.access.specs.declared.Direction.{Direction}
 use Rattle.bits.specs.Shares.{has, turnIn, physicalBit}
 use Rattle.mapping.specs.declared.entity.Entity.{Entity}
-use Rattle.mapping.specs.declared.accesses.Access.{Access}
+use Rattle.mapping.specs.declared.mapped.Access.{Access}
 use Rattle.mapping.specs.Registers.{noEntity}
 use Rattle.mapping.specs.Mapping.{server, lands, mappedAccesses}
 

@@ -8,7 +8,7 @@ use Rattle.access.specs.declared.Direction.{Direction}
 use Rattle.bits.specs.Bits.{bitAt}
 use Rattle.bits.specs.Shares.{laid, stored}
 use Rattle.mapping.specs.declared.entity.Entity.{Entity}
-use Rattle.mapping.specs.declared.accesses.Access.{Access}
+use Rattle.mapping.specs.declared.mapped.Access.{Access}
 use Rattle.mapping.specs.Mapping.{lands, landedFrom}
 use Rattle.mapping_laws.specs.Serves.{Covers-bit}
 

@@ -8,7 +8,7 @@ use Rattle.access.specs.declared.Direction.{Direction}
 use Rattle.bits.specs.declared.share.Share.the-variants.{Whole}
 use Rattle.bits.specs.Shares.{splits}
 use Rattle.mapping.specs.declared.entity.Entity.{Entity}
-use Rattle.mapping.specs.declared.accesses.Access.{Access}
+use Rattle.mapping.specs.declared.mapped.Access.{Access}
 use Rattle.mapping.specs.Mapping.{mappedAccesses}
 
 abbrev pub All-parts : List Access → Type 0

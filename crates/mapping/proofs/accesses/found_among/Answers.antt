@@ -6,7 +6,7 @@ use Rattle.std.specs.declared.option.Option.the-variants.{Some, None}
 use Rattle.mapping.specs.Registers.{noEntity}
 use Rattle.mapping.specs.Mapping.{listed}
 use Rattle.mapping.proofs.Steps.{Walked, walked-none, walked-all, walked-full, searched, told-by, turned, started, found-within}
-use Rattle.mapping.proofs.accesses.accesses_at.Needs as need
+use Rattle.mapping.proofs.accesses.found_among.Needs as need
 
 pub loop-free-holds : need.loop-free-holds
 loop-free-holds c = (
@@ -16,7 +16,7 @@ loop-free-holds c = (
 
 pub with-bits-found-requires : need.with-bits-found-requires
 with-bits-found-requires c κs =
-    let law = searched (c .args .entities .now) (c .loop-free .next) (c .args .address) (Some (c .in-Some .step)) (omega arith) (c .in-Some .ensures tt) in
+    let law = searched (c .args .entities .now) (c .loop-free .next) (c .args .address) (Some (c .in-Some .step)) (c .in-Some .ensures tt) in
     let long = length-drop (c .loop-free .next) (c .args .entities .now) in
     record {
       room = omega (arith, law .0, c .loop-free .inv .1);
@@ -28,7 +28,7 @@ with-bits-found-requires c κs =
 
 pub loop-free-again : need.loop-free-again
 loop-free-again c =
-    let law = searched (c .args .entities .now) (c .loop-free .next) (c .args .address) (Some (c .in-Some .step)) (omega arith) (c .in-Some .ensures tt) in (
+    let law = searched (c .args .entities .now) (c .loop-free .next) (c .args .address) (Some (c .in-Some .step)) (c .in-Some .ensures tt) in (
       turned (c .args .entities .now) (c .args .direction) (c .args .address) (c .loop-free .next) (c .in-Some .step) (c .loop-free .free) (c .in-octet-covered .result) (listed (c .loop-free .found)) (listed (c .with-bits-found .result)) (law .0) (law .2) (omega arith)
           (told-by (c .args .entities .now) (c .args .direction) (c .args .address) (getD (c .args .entities .now) (c .loop-free .next + c .in-Some .step) noEntity) (c .in-octet-covered .result) (c .bits-covered .result) (c .in-octet-covered .ensures) (c .bits-covered .ensures)) (c .with-bits-found .ensures .list) (c .loop-free .inv .0),
       omega (arith, c .with-bits-found .ensures .count, c .loop-free .inv .1),
@@ -37,7 +37,7 @@ loop-free-again c =
 pub returns-in-rest : need.returns-in-rest
 returns-in-rest c =
     walked-all (c .args .entities .now) (c .args .direction) (c .args .address) (c .loop-free .next) (c .loop-free .free) (listed (c .loop-free .found))
-    (searched (c .args .entities .now) (c .loop-free .next) (c .args .address) None (omega arith) (c .in-rest .ensures tt)) (c .loop-free .inv .0)
+    (searched (c .args .entities .now) (c .loop-free .next) (c .args .address) None (c .in-rest .ensures tt)) (c .loop-free .inv .0)
 
 pub returns : need.returns
 returns c =

@@ -1,6 +1,6 @@
 use native.Mathlib.Omega.{arith}
 use Rattle.mapping.proofs.Landed.{one-more}
-use Rattle.mapping.proofs.accesses.Accesses.with.Needs as need
+use Rattle.mapping.proofs.mapped.Accesses.with.Needs as need
 
 pub returns : need.returns
 returns c =
