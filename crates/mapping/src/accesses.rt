@@ -37,39 +37,36 @@ impl Accesses {
     }
 
     // One access more, if there are bits for it.
-    fn with(self, address: u32, bits: u8, turn: u8) -> Accesses
-        requires { ⌜ self .count < 16 ⌝ }
-        ensures list { λ r. ⌜ listed r ≡ listed self ++ accessFor address bits turn ⌝ }
-        ensures count { λ r. ⌜ r .count ≤ self .count + 1 ⌝ }
+    fn push(&mut self, address: u32, bits: u8, turn: u8)
+        requires { ⌜ now self .count < 16 ⌝ }
+        ensures list { λ _. ⌜ listed (now (self .exit)) ≡ listed (now (self .entry)) ++ accessFor address bits turn ⌝ }
+        ensures count { λ _. ⌜ now (self .exit) .count ≤ now (self .entry) .count + 1 ⌝ }
     {
         if bits == 0 {
-            return self;
+            return;
         }
-        let mut list = self.list;
-        list[self.count] = Access {
+        let place = self.count;
+        self.list[place] = Access {
             address,
             share: Share::of(bits, turn),
         };
-        Accesses {
-            list,
-            count: self.count + 1,
-        }
+        self.count = place + 1;
     }
 
     // The accesses of those bits of the logical octet at `address`, through the entity: the lower physical octet first.
-    fn with_bits(self, entity: &Entity, address: u64, bits: u8) -> Accesses
-        requires room { ⌜ self .count ≤ 14 ⌝ }
+    fn push_bits(&mut self, entity: &Entity, address: u64, bits: u8)
+        requires room { ⌜ now self .count ≤ 14 ⌝ }
         requires within { ⌜ address < now entity .logical + now entity .length ⌝ }
         requires started { ⌜ ((i : ℕ) → i < 8 → bitAt bits i ≡ true → firstBit (now entity) ≤ 8 * address + i) ⌝ }
-        ensures list { λ r. ⌜ listed r ≡ listed self ++ landedFrom (now (entity .entry)) address bits ⌝ }
-        ensures count { λ r. ⌜ r .count ≤ self .count + 2 ⌝ }
+        ensures list { λ _. ⌜ listed (now (self .exit)) ≡ listed (now (self .entry)) ++ landedFrom (now (entity .entry)) address bits ⌝ }
+        ensures count { λ _. ⌜ now (self .exit) .count ≤ now (self .entry) .count + 2 ⌝ }
     {
         let turn = entity.turn();
         let first = entity.landing(address);
         let octet = first / 8;
         let front = 0xff >> (first % 8);
-        self.with(octet, bits & front, turn)
-            .with(octet + 1, bits & !front, turn)
+        self.push(octet, bits & front, turn);
+        self.push(octet + 1, bits & !front, turn);
     }
 }
 
@@ -137,7 +134,7 @@ fn found_among(entities: &[Entity], direction: Direction, address: u64) -> Acces
         };
         let entity = entities[next + step];
         let covered = entity.bits_covered(direction).in_octet(address);
-        found = found.with_bits(&entity, address, covered & free);
+        found.push_bits(&entity, address, covered & free);
         free &= !covered;
         next += step + 1;
     }

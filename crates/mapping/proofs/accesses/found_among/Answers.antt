@@ -14,8 +14,8 @@ loop-free-holds c = (
   omega arith,
 )
 
-pub with-bits-found-requires : need.with-bits-found-requires
-with-bits-found-requires c κs =
+pub push-bits-requires : need.push-bits-requires
+push-bits-requires c κs =
     let law = searched (c .args .entities .now) (c .loop-free .next) (c .args .address) (Some (c .in-Some .step)) (c .in-Some .ensures tt) in
     let long = length-drop (c .loop-free .next) (c .args .entities .now) in
     record {
@@ -29,9 +29,9 @@ with-bits-found-requires c κs =
 pub loop-free-again : need.loop-free-again
 loop-free-again c =
     let law = searched (c .args .entities .now) (c .loop-free .next) (c .args .address) (Some (c .in-Some .step)) (c .in-Some .ensures tt) in (
-      turned (c .args .entities .now) (c .args .direction) (c .args .address) (c .loop-free .next) (c .in-Some .step) (c .loop-free .free) (c .in-octet-covered .result) (listed (c .loop-free .found)) (listed (c .with-bits-found .result)) (law .0) (law .2) (omega arith)
-          (told-by (c .args .entities .now) (c .args .direction) (c .args .address) (getD (c .args .entities .now) (c .loop-free .next + c .in-Some .step) noEntity) (c .in-octet-covered .result) (c .bits-covered .result) (c .in-octet-covered .ensures) (c .bits-covered .ensures)) (c .with-bits-found .ensures .list) (c .loop-free .inv .0),
-      omega (arith, c .with-bits-found .ensures .count, c .loop-free .inv .1),
+      turned (c .args .entities .now) (c .args .direction) (c .args .address) (c .loop-free .next) (c .in-Some .step) (c .loop-free .free) (c .in-octet-covered .result) (listed (c .loop-free .found)) (listed (c .push-bits .last .self)) (law .0) (law .2) (omega arith)
+          (told-by (c .args .entities .now) (c .args .direction) (c .args .address) (getD (c .args .entities .now) (c .loop-free .next + c .in-Some .step) noEntity) (c .in-octet-covered .result) (c .bits-covered .result) (c .in-octet-covered .ensures) (c .bits-covered .ensures)) (c .push-bits .ensures .list) (c .loop-free .inv .0),
+      omega (arith, c .push-bits .ensures .count, c .loop-free .inv .1),
     )
 
 pub returns-in-rest : need.returns-in-rest
