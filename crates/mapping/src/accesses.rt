@@ -30,6 +30,7 @@ impl Accesses {
         }
     }
 
+    // The accesses, in their order.
     pub fn as_slice(&self) -> &[Access]
         ensures { λ r. ⌜ now r ≡ listed (now (self .entry)) ⌝ }
     {
@@ -90,7 +91,7 @@ impl Entity {
 }
 
 // An entity is searched by the logical octets that it lies in.
-pub impl Span for Entity as EntitySpan {
+impl Span for Entity as EntitySpan {
     ghost low = { λ e. firstOctet e };
 
     ghost high = { λ e. lastOctet e };

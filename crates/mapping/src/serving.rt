@@ -1,10 +1,10 @@
-// Which logical bits an entity covers in a direction.
+// Which logical bits an entity covers in a direction, and which entity serves a bit.
 ghost use mathlib.Core.Path.{_≡_};
 ghost use mathlib.Core.Bool.{_&&_};
+ghost use mathlib.Core.List.{map};
 ghost use Prim.Native.Nat.{_+_, _*_};
 ghost use lib.Dec.{leb};
 ghost use Rattle.bits.specs.Bits.{octetOf};
-ghost use mathlib.Core.List.{map};
 ghost use Rattle.mapping.specs.Mapping.{allows, bitsCovered, server};
 use crate::entity::Entity;
 use access::Direction;
@@ -21,7 +21,7 @@ pub struct BitRange {
 // No logical bit has this number or a higher one: there are 2^32 logical octets.
 const BITS: u64 = 1 << 35;
 
-pub impl Span for BitRange as BitRangeSpan {
+impl Span for BitRange as BitRangeSpan {
     ghost low = { λ r. r .first };
 
     ghost high = { λ r. r .last };
@@ -77,6 +77,7 @@ impl Entity {
     }
 }
 
+// What each entity covers.
 fn ranges(entities: &[Entity; 8], direction: Direction) -> [BitRange; 8]
     ensures { λ r. ⌜ r ≡ map (bitsCovered direction) (now (entities .entry)) ⌝ }
 {
