@@ -1,19 +1,18 @@
 -- Octets turned by some bits, and the bits of a share.
-use mathlib.Core.Path.{_≡_, refl, sym, ap, subst, _∙_}
+use mathlib.Core.Path.{_≡_, refl, ap, _∙_}
 use mathlib.Core.Bool.{Bool, true, false, cond, not, _&&_, _||_}
 use mathlib.Core.Logic.{⊎-elim}
 use Prim.Native.Nat.{ℕ, _+_, _-_, _*_, _/_, _%_, _^_, _≤_, _<_}
 use native.Mathlib.Nat.{div-eq-of-lt}
 use native.Mathlib.Omega.{arith}
-use lib.Dec.{eqb, leb, ltb}
+use lib.Dec.{eqb, leb}
 use lib.Pow.{pow-mono}
 use lib.Bits.{bitAnd, bitOr, and-le-l, and-le-r, or-comm, or-lt}
 use Rattle.std.proofs.shelf.Tests.{cases-lt, both-ways}
 use Rattle.std.proofs.shelf.Ways.{tells}
-use Rattle.bits.specs.declared.share.Share.{Share}
 use Rattle.bits.specs.declared.share.Share.the-variants.{Whole, Part}
-use Rattle.bits.specs.Bits.{bitAt, octetOf}
-use Rattle.bits.specs.Shares.{laid, stored, has, physicalBit, logicalBit, Bits-come-back, All-bits-come-back}
+use Rattle.bits.specs.Bits.{bitAt}
+use Rattle.bits.specs.Shares.{laid, stored, physicalBit, logicalBit, All-bits-come-back}
 use Rattle.bits.proofs.Octets.{is-octet, bit-of, bit-and, bit-or, bit-not, bit-shl, bit-shr}
 
 pub bit-high : (x j : ℕ) → x < 256 → 8 ≤ j → bitAt x j ≡ false

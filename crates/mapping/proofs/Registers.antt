@@ -1,5 +1,5 @@
 -- Register octets of an entity are read back as they were written.
-use mathlib.Core.Path.{_≡_, refl, sym, ap, _∙_}
+use mathlib.Core.Path.{_≡_, refl, ap, _∙_}
 use mathlib.Core.Logic.{_≢_}
 use mathlib.Core.Bool.{Bool, true, false, cond, _&&_}
 use Prim.Native.Nat.{ℕ, _+_, _-_, _*_, _/_, _%_, _≤_, _<_}
@@ -10,7 +10,7 @@ use Rattle.std.proofs.shelf.Ways.{tells}
 use Rattle.access.specs.Fields.{octetAt, withOctet}
 use Rattle.access.proofs.Fields.{reads-back}
 use Rattle.mapping.specs.declared.entity.Entity.{Entity}
-use Rattle.mapping.specs.Registers.{partOf, entityOctet, withEntityOctet, kept, bit, Reads-back, Entities-read-back}
+use Rattle.mapping.specs.Registers.{partOf, entityOctet, withEntityOctet, kept, bit, Entities-read-back}
 
 -- under each answer of a test
 both : (t : Bool) (x y x′ y′ : ℕ) → (t ≡ true → x ≡ x′) → (t ≡ false → y ≡ y′) → cond t x y ≡ cond t x′ y′

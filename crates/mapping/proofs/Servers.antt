@@ -3,19 +3,17 @@ use mathlib.Core.Path.{_≡_, refl, sym, ap, subst, _∙_}
 use mathlib.Core.Bool.{Bool, true, false, cond, not, _&&_, _||_}
 use mathlib.Core.Logic.{⊎-elim}
 use mathlib.Core.List.{List, [], _∷_, _++_}
-use Prim.Native.Nat.{ℕ, zero, suc, _+_, _-_, _*_, _≤_, _<_}
+use Prim.Native.Nat.{ℕ, zero, suc, _+_, _-_, _<_}
 use native.Mathlib.Nat.{not-suc-le-zero, le-of-suc-le-suc}
 use native.Mathlib.Omega.{arith}
-use lib.Dec.{eqb, ltb}
 use lib.Bits.{bitAnd, and-le-l, and-le-r}
 use lib.ListN.{length, take, getD}
-use Rattle.std.specs.declared.option.Option.{Option}
-use Rattle.std.specs.declared.option.Option.the-variants.{Some, None}
+use Rattle.std.specs.declared.option.Option.the-variants.{Some}
 use Rattle.std.proofs.shelf.Lists.{take-more}
 use Rattle.std.proofs.shelf.Tests.{cases-bool, and-right}
 use Rattle.std.proofs.shelf.Ways.{tells}
 use Rattle.cover.specs.Lowest.{covers, lowest-from}
-use Rattle.bits.specs.Bits.{bitAt, octetOf}
+use Rattle.bits.specs.Bits.{octetOf}
 use Rattle.bits.proofs.Octets.{is-octet, bits-lt, bit-and, bit-not, bit-full, reads}
 use Rattle.mapping.specs.Mapping.{is}
 

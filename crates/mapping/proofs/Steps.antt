@@ -2,11 +2,11 @@
 use mathlib.Core.Path.{_≡_, refl, sym, ap, subst, _∙_}
 use mathlib.Core.Bool.{Bool, true, false, cond, _&&_}
 use mathlib.Core.Logic.{⊎-elim}
-use mathlib.Core.List.{List, [], _∷_, _++_, append-assoc, append-nil}
-use Prim.Native.Nat.{ℕ, zero, suc, _+_, _-_, _*_, _/_, _%_, _^_, _≤_, _<_}
+use mathlib.Core.List.{List, [], _++_, append-assoc, append-nil}
+use Prim.Native.Nat.{ℕ, zero, suc, _+_, _-_, _*_, _/_, _≤_, _<_}
 use native.Mathlib.Nat.{zero-add}
 use native.Mathlib.Omega.{arith}
-use lib.Dec.{eqb, leb, ltb}
+use lib.Dec.{eqb, leb}
 use lib.Bits.{bitAnd, and-zero-l, and-zero-r, and-mask}
 use lib.ListN.{length, take, drop, getD, length-drop}
 use Rattle.std.specs.Places.{Every}
@@ -22,9 +22,9 @@ use Rattle.mapping.specs.declared.entity.Entity.{Entity}
 use Rattle.mapping.specs.declared.mapped.Access.{Access}
 use Rattle.mapping.specs.declared.serving.BitRange.{BitRange}
 use Rattle.mapping.specs.Registers.{noEntity}
-use Rattle.mapping.specs.Mapping.{firstBit, lastBit, allows, works, bitsCovered, firstOctet, lastOctet, server, is, lands, turnOf, landingIn, accessFor, landedFrom, servedBits, mappedFrom, mappedAccesses}
+use Rattle.mapping.specs.Mapping.{firstBit, lastBit, works, bitsCovered, firstOctet, lastOctet, is, lands, turnOf, landingIn, accessFor, landedFrom, servedBits, mappedFrom, mappedAccesses}
 use Rattle.mapping.proofs.Ranges.{firstCovered, lastCovered, server-is}
-use Rattle.mapping.proofs.Servers.{some, lowest, found-lowest, Free, free-fits, free-none, free-more, share-is}
+use Rattle.mapping.proofs.Servers.{lowest, found-lowest, Free, free-fits, free-none, free-more, share-is}
 
 -- what a search among the entities from one on found
 pub searched : (es : List Entity) (n a : ℕ) (r : Option ℕ) → Lowest firstOctet lastOctet a (take (length es - n) (drop n es)) r → Lowest firstOctet lastOctet a (drop n es) r
@@ -135,19 +135,25 @@ module _ (es : List Entity) (d : Direction) (a : ℕ) where
       ⊎-elim (λ less. walked-full k (n + 1) xs (omega arith) (full n xs less w)) (λ past. ended n 0 xs past w) (cases-lt n (length es))
 
   -- the mask of an entity's range
-  pub told-by : (e : Entity) (y : ℕ) (r : BitRange) → y ≡ octetOf (λ i. leb (r .first) (8 * a + i) && leb (8 * a + i) (r .last)) → r ≡ bitsCovered d e → y ≡ octetOf (λ i. takes i e)
+  told-by : (e : Entity) (y : ℕ) (r : BitRange) → y ≡ octetOf (λ i. leb (r .first) (8 * a + i) && leb (8 * a + i) (r .last)) → r ≡ bitsCovered d e → y ≡ octetOf (λ i. takes i e)
   told-by e y r y-is r-is = y-is ∙ ap (λ r. octetOf (λ i. leb (r .first) (8 * a + i) && leb (8 * a + i) (r .last))) r-is
 
-  -- one turn of the search: k entities that lie elsewhere, and one that lies in the octet
-  pub turned : (n k free y : ℕ) (xs ys : List Access) → k < length (drop n es) → Every (λ e. Covers firstOctet lastOctet a e → ⊥) (drop n es) 0 k → y < 256 → y ≡ octetOf (λ i. takes i (getD es (n + k) noEntity)) → ys ≡ xs ++ landedFrom (getD es (n + k) noEntity) a (bitAnd y free) → Walked n free xs → Walked (n + (k + 1)) (bitAnd free (255 - y)) ys
-  turned n k free y xs ys h out small told ys-is w =
-      let long = length-drop n es in
-      let place : n + k + 1 ≡ n + (k + 1) = omega arith in
-      subst (λ m. Walked m (bitAnd free (255 - y)) ys) place (walked-more (n + k) free y noEntity xs ys (omega arith) small told ys-is (walked-by k n free xs (omega arith) out w))
+  -- one turn of the search: entity n + k lies in the octet and covers the bits of y there, and the k before it lie elsewhere
+  module _ (n k free y : ℕ) (r : BitRange) (y-is : y ≡ octetOf (λ i. leb (r .first) (8 * a + i) && leb (8 * a + i) (r .last))) (r-is : r ≡ bitsCovered d (getD es (n + k) noEntity)) where
+    abbrev entity : Entity
+    entity = getD es (n + k) noEntity
 
-  pub started : (e : Entity) (y free : ℕ) → y ≡ octetOf (λ i. takes i e) → (i : ℕ) → i < 8 → bitAt (bitAnd y free) i ≡ true → firstBit e ≤ 8 * a + i
-  started e y free told i h t =
-      covered-from d e (8 * a + i) (sym (reads y (λ i. takes i e) told i h) ∙ and-parts (bitAt y i) (bitAt free i) (sym (bit-and y free i) ∙ t) .0)
+    told : y ≡ octetOf (λ i. takes i entity)
+    told = told-by entity y r y-is r-is
+
+    pub started : (i : ℕ) → i < 8 → bitAt (bitAnd y free) i ≡ true → firstBit entity ≤ 8 * a + i
+    started i h t = covered-from d entity (8 * a + i) (sym (reads y (λ i. takes i entity) told i h) ∙ and-parts (bitAt y i) (bitAt free i) (sym (bit-and y free i) ∙ t) .0)
+
+    pub turned : (xs ys : List Access) → k < length (drop n es) → Every (λ e. Covers firstOctet lastOctet a e → ⊥) (drop n es) 0 k → y < 256 → ys ≡ xs ++ landedFrom entity a (bitAnd y free) → Walked n free xs → Walked (n + (k + 1)) (bitAnd free (255 - y)) ys
+    turned xs ys h out small ys-is w =
+        let long = length-drop n es in
+        let place : n + k + 1 ≡ n + (k + 1) = omega arith in
+        subst (λ m. Walked m (bitAnd free (255 - y)) ys) place (walked-more (n + k) free y noEntity xs ys (omega arith) small told ys-is (walked-by k n free xs (omega arith) out w))
 
   pub found-within : (n k : ℕ) → ((e : Entity) → Covers firstOctet lastOctet a (getD (drop n es) k e)) → a < getD es (n + k) noEntity .logical + getD es (n + k) noEntity .length
   found-within n k at = within (getD es (n + k) noEntity) a (subst (λ e. Covers firstOctet lastOctet a e) (getD-drop n es k noEntity) (at noEntity))

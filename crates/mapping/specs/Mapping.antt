@@ -1,7 +1,7 @@
 -- Which accesses one logical octet makes. Logical bit b is bit b % 8 of the logical octet b / 8, and physical bits count likewise. Assumes nothing.
-use mathlib.Core.Bool.{Bool, true, false, cond, _&&_}
+use mathlib.Core.Bool.{Bool, false, cond, _&&_}
 use mathlib.Core.List.{List, [], _∷_, _++_, map}
-use Prim.Native.Nat.{ℕ, suc, _+_, _-_, _*_, _/_, _%_, _^_}
+use Prim.Native.Nat.{ℕ, _+_, _-_, _*_, _/_, _%_, _^_}
 use lib.Dec.{eqb, ltb}
 use lib.ListN.{take}
 use Rattle.std.specs.declared.option.Option.{Option}

@@ -1,6 +1,6 @@
 -- A whole-octet access stands alone: its eight bits leave none for another.
-use mathlib.Core.Path.{_≡_, refl, sym, ap, subst, _∙_}
-use mathlib.Core.Bool.{Bool, true, false, cond, _&&_}
+use mathlib.Core.Path.{_≡_, refl, sym, ap, _∙_}
+use mathlib.Core.Bool.{true, false, cond, _&&_}
 use mathlib.Core.Logic.{_⊎_, inl, inr, ⊎-elim, _≢_}
 use mathlib.Core.List.{List, [], _∷_, _++_}
 use Prim.Native.Nat.{ℕ, _+_, _*_, _/_, _≤_, _<_}
@@ -9,13 +9,11 @@ use lib.Dec.{eqb}
 use Rattle.std.specs.declared.option.Option.{Option}
 use Rattle.std.specs.declared.option.Option.the-variants.{Some, None}
 use Rattle.std.proofs.shelf.Tests.{and-parts, and-right, both-ways, cases-eq, cond-both, eqb-true, ne-eqb}
-use Rattle.std.proofs.shelf.Ways.{tells}
 use Rattle.access.specs.declared.Direction.{Direction}
-use Rattle.bits.specs.declared.share.Share.{Share}
 use Rattle.bits.specs.declared.share.Share.the-variants.{Whole, Part}
-use Rattle.bits.specs.Bits.{bitAt, octetOf}
+use Rattle.bits.specs.Bits.{bitAt}
 use Rattle.bits.specs.Shares.{shareOf, splits}
-use Rattle.bits.proofs.Octets.{bit-of, bit-full, octet-none, reads}
+use Rattle.bits.proofs.Octets.{bit-of, bit-full, octet-none}
 use Rattle.mapping.specs.declared.entity.Entity.{Entity}
 use Rattle.mapping.specs.declared.mapped.Access.{Access}
 use Rattle.mapping.specs.Mapping.{server, is, lands, turnOf, landingIn, accessFor, landedFrom, servedBits, mappedFrom}

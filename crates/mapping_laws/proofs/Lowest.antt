@@ -1,27 +1,27 @@
 -- The lowest covering entity serves a bit.
-use mathlib.Core.Path.{_≡_, sym, subst, _∙_}
+use mathlib.Core.Path.{_≡_, sym, _∙_}
 use mathlib.Core.Bool.{true, _&&_}
 use mathlib.Core.Logic.{⊎-elim}
 use mathlib.Core.List.{List}
-use Prim.Native.Nat.{ℕ, _≤_, _<_}
+use Prim.Native.Nat.{ℕ}
 use native.Mathlib.Omega.{arith}
 use lib.Dec.{leb}
 use lib.ListN.{length}
 use Rattle.std.specs.Options.{Cases}
-use Rattle.std.specs.Places.{At, Every}
+use Rattle.std.specs.Places.{Every}
 use Rattle.std.specs.declared.option.Option.{Option}
 use Rattle.std.specs.declared.option.Option.the-variants.{Some, None}
-use Rattle.std.proofs.shelf.Tests.{cases-order, and-parts, and-from, le-leb, leb-true}
+use Rattle.std.proofs.shelf.Tests.{cases-order, and-parts, leb-true}
 use Rattle.std.proofs.shelf.Ways.{tells}
 use Rattle.access.specs.declared.Direction.{Direction}
-use Rattle.cover.specs.Lowest.{covers, Covers, Lowest}
+use Rattle.cover.specs.Lowest.{Covers, Lowest}
 use Rattle.cover.proofs.Found.{law-at, covers-true}
 use Rattle.mapping.specs.declared.entity.Entity.{Entity}
 use Rattle.mapping.specs.Registers.{noEntity}
-use Rattle.mapping.specs.Mapping.{firstBit, stopBit, lastBit, allows, works, server, lands}
+use Rattle.mapping.specs.Mapping.{firstBit, lastBit, works, server, lands}
 use Rattle.mapping.proofs.Ranges.{firstCovered, lastCovered, server-is}
 use Rattle.mapping.proofs.Steps.{covering}
-use Rattle.mapping_laws.specs.Serves.{Covers-bit, Serves, Served-by-one, Every-bit-served-by-one}
+use Rattle.mapping_laws.specs.Serves.{Covers-bit, Serves, Every-bit-served-by-one}
 
 module _ (d : Direction) (b : ℕ) (e : Entity) where
   pub covers-bit : Covers (firstCovered d) (lastCovered d) b e → Covers-bit d b e

@@ -1,5 +1,5 @@
 -- Bits written and read back through an entity.
-use mathlib.Core.Path.{_≡_, refl, sym, ap, subst, _∙_}
+use mathlib.Core.Path.{_≡_, refl, sym, ap, _∙_}
 use mathlib.Core.Bool.{Bool, true, false, cond, _&&_}
 use mathlib.Core.Logic.{⊎-elim}
 use mathlib.Core.List.{List, [], _∷_, _++_}
@@ -9,7 +9,7 @@ use lib.Dec.{eqb}
 use Rattle.std.proofs.shelf.Tests.{and-parts, and-right, cases-bool, cases-eq, eqb-true, eq-eqb, ne-eqb}
 use Rattle.std.proofs.shelf.Ways.{tells}
 use Rattle.bits.specs.declared.share.Share.the-variants.{Whole, Part}
-use Rattle.bits.specs.Bits.{bitAt, octetOf}
+use Rattle.bits.specs.Bits.{bitAt}
 use Rattle.bits.specs.Shares.{shareOf, laid, stored, physicalBit, logicalBit}
 use Rattle.bits.proofs.Octets.{bit-of, bit-zero, bit-full}
 use Rattle.mapping.specs.declared.entity.Entity.{Entity}

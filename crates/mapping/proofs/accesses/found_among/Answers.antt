@@ -1,11 +1,9 @@
 use mathlib.Core.Path.{sym, subst}
 use native.Mathlib.Omega.{arith}
-use Prim.Native.Nat.{_+_}
-use lib.ListN.{getD, length-drop}
+use lib.ListN.{length-drop}
 use Rattle.std.specs.declared.option.Option.the-variants.{Some, None}
-use Rattle.mapping.specs.Registers.{noEntity}
 use Rattle.mapping.specs.Mapping.{listed}
-use Rattle.mapping.proofs.Steps.{Walked, walked-none, walked-all, walked-full, searched, told-by, turned, started, found-within}
+use Rattle.mapping.proofs.Steps.{Walked, walked-none, walked-all, walked-full, searched, turned, started, found-within}
 use Rattle.mapping.proofs.accesses.found_among.Needs as need
 
 pub loop-free-holds : need.loop-free-holds
@@ -21,16 +19,14 @@ push-bits-requires c κs =
     record {
       room = omega (arith, law .0, c .loop-free .inv .1);
       within = found-within (c .args .entities .now) (c .args .direction) (c .args .address) (c .loop-free .next) (c .in-Some .step) (law .1);
-      started =
-          started (c .args .entities .now) (c .args .direction) (c .args .address) (getD (c .args .entities .now) (c .loop-free .next + c .in-Some .step) noEntity) (c .in-octet-covered .result) (c .loop-free .free)
-          (told-by (c .args .entities .now) (c .args .direction) (c .args .address) (getD (c .args .entities .now) (c .loop-free .next + c .in-Some .step) noEntity) (c .in-octet-covered .result) (c .bits-covered .result) (c .in-octet-covered .ensures) (c .bits-covered .ensures));
+      started = started (c .args .entities .now) (c .args .direction) (c .args .address) (c .loop-free .next) (c .in-Some .step) (c .loop-free .free) (c .in-octet-covered .result) (c .bits-covered .result) (c .in-octet-covered .ensures) (c .bits-covered .ensures);
     }
 
 pub loop-free-again : need.loop-free-again
 loop-free-again c =
     let law = searched (c .args .entities .now) (c .loop-free .next) (c .args .address) (Some (c .in-Some .step)) (c .in-Some .ensures tt) in (
-      turned (c .args .entities .now) (c .args .direction) (c .args .address) (c .loop-free .next) (c .in-Some .step) (c .loop-free .free) (c .in-octet-covered .result) (listed (c .loop-free .found)) (listed (c .push-bits .last .self)) (law .0) (law .2) (omega arith)
-          (told-by (c .args .entities .now) (c .args .direction) (c .args .address) (getD (c .args .entities .now) (c .loop-free .next + c .in-Some .step) noEntity) (c .in-octet-covered .result) (c .bits-covered .result) (c .in-octet-covered .ensures) (c .bits-covered .ensures)) (c .push-bits .ensures .list) (c .loop-free .inv .0),
+      turned (c .args .entities .now) (c .args .direction) (c .args .address) (c .loop-free .next) (c .in-Some .step) (c .loop-free .free) (c .in-octet-covered .result) (c .bits-covered .result) (c .in-octet-covered .ensures) (c .bits-covered .ensures)
+          (listed (c .loop-free .found)) (listed (c .push-bits .last .self)) (law .0) (law .2) (omega arith) (c .push-bits .ensures .list) (c .loop-free .inv .0),
       omega (arith, c .push-bits .ensures .count, c .loop-free .inv .1),
     )
 
