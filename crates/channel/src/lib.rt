@@ -1,0 +1,21 @@
+// One sync manager channel: its settings, the judging of an enabling, the questions before an access, and the service from an accepted enabling
+// to the end. No memory and no frames: the station above reads and writes the memory at the places that are told here.
+mod facts;
+mod record;
+mod service;
+mod setting;
+mod steps;
+
+pub use facts::Facts;
+pub use facts::Refusal;
+pub use record::Channel;
+pub use record::ChannelSpan;
+pub use service::Buffer;
+pub use service::Roles;
+pub use service::Service;
+pub use service::Shown;
+pub use service::Transaction;
+pub use setting::Denial;
+pub use setting::Kind;
+pub use setting::Setting;
+pub use setting::Window;
