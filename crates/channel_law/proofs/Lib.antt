@@ -1,0 +1,4 @@
+pub mod Places
+pub mod Messages
+pub mod Held
+pub mod Steps
