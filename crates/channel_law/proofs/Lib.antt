@@ -2,3 +2,5 @@ pub mod Places
 pub mod Messages
 pub mod Held
 pub mod Steps
+pub mod Asked
+pub mod Keeps

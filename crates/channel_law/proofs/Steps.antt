@@ -1,5 +1,5 @@
 -- Each part of a step keeps what holds between a service and its story. Assumes nothing.
-use mathlib.Core.Path.{_≡_, refl, sym, ap, subst, _∙_}
+use mathlib.Core.Path.{_≡_, refl, sym, ap, subst, subst₂, _∙_}
 use mathlib.Core.Logic.{_≢_, _⊎_, inl, inr, ⊎-elim}
 use mathlib.Core.List.{List, [], _∷_, _++_}
 use mathlib.Core.Bool.{Bool, true, false, cond, not}
@@ -11,6 +11,7 @@ use Rattle.std.proofs.shelf.Lists.{getD-set-same, getD-set-other, length-set, l
 use Rattle.std.proofs.shelf.Tests.{leb-true, leb-false, eqb-true, eqb-false, cases-eq, cases-lt, cases-bool, true≢false, false≢true}
 use Rattle.std.specs.declared.option.Option.the-variants.{Some, None}
 use Rattle.access.specs.declared.Side.{Side}
+use Rattle.access.specs.declared.Side.the-variants.{Master, Local}
 use Rattle.channel.specs.declared.setting.Kind.{Kind}
 use Rattle.channel.specs.declared.setting.Kind.the-variants.{Buffered, Mailbox}
 use Rattle.channel.specs.declared.setting.Window.{Window}
@@ -21,11 +22,11 @@ use Rattle.channel.specs.declared.service.Roles.{Roles}
 use Rattle.channel.specs.declared.service.Shown.{Shown}
 use Rattle.channel.specs.declared.service.Shown.the-variants.{Nothing, Ready, Fetch}
 use Rattle.channel.specs.declared.service.Service.{Service}
-use Rattle.channel.specs.Windows.{placeIn}
+use Rattle.channel.specs.Windows.{areaSize, inMemory, placeIn}
 use Rattle.channel.specs.Services.{takenBy, touchedBy, closedBy, closes, accessed, left, numberOf, present, rolesOpened, shownOpened, emptied, writingDone, readingDone, withStore, openedIf, withFetch, storePlace, frameLeft}
-use Rattle.channel_law.specs.Story.{Accesses, Reading, Story, takenIn, none, noReading, addStore, beforeThis, addFetch, writingCompleted, writingCancelled, readingCompleted, readingCancelled, frameOver, when}
+use Rattle.channel_law.specs.Story.{Accesses, Reading, Story, takenIn, none, noReading, addStore, beforeThis, addFetch, writingCompleted, writingCancelled, readingCompleted, readingCancelled, frameOver, noted, when}
 use Rattle.channel_law.specs.Law.{last, Shows, ShowsLatest, AllShow, Apart, Fits}
-use Rattle.channel_law.proofs.Places.{place-exists, apart}
+use Rattle.channel_law.proofs.Places.{place-from, place-below, place-exists, apart}
 use Rattle.channel_law.proofs.Messages.{last-same, last-other, taken-none, goes-on, nth, none-push, latest-push, nth-push, latest-some, latest-shows, latest-more, all-more}
 use Rattle.channel_law.proofs.Held.{extent, Holds, WritingHeld, ReadingHeld, ShownHeld, MailboxHeld, KindHeld, Parts}
 
@@ -274,3 +275,194 @@ module _ (m : List ℕ) (s : Service) (t : Story) (i : Parts m s t) (more : clos
         (λ o. let x = h .busy (omega arith) in (x .0, same-number o ∙ x .1))
         (λ o. let w : takenBy (s .reading) ≡ 0 = omega arith in (g w, new-number w))
         (cases-lt 0 (takenBy (s .reading)))
+
+-- AN OCTET IS FETCHED by a reading whose writing stands in the fetch buffer.
+abbrev pub taking : Story → (k v : ℕ) → Story
+taking t k v = record {
+  window = t .window; written = t .written; writing = t .writing; over = t .over; reading = record { before = t .reading .before; fetched = (k, v) ∷ t .reading .fetched };
+  read = t .read; touched = t .touched; closed = t .closed
+}
+
+module _ (m : List ℕ) (s : Service) (t : Story) (i : Parts m s t) (k : ℕ) (turn : k ≤ takenBy (s .reading)) (more : closedBy (s .reading) ≡ false)
+    (some : 0 < t .reading .before) (by-now : t .reading .before ≤ length (t .written)) (found : Holds m (s .window) (s .roles .fetch) (nth (t .written) (t .reading .before)))
+    (mail′ : s .window .kind ≡ Mailbox → (present (s .shown) ≡ true) × (t .reading .before ≡ length (t .written))) where
+  abbrev octet : ℕ
+  octet = getD m (placeIn (s .window) (numberOf (s .roles .fetch)) k) 0
+
+  latest′ : ShowsLatest (t .written) (t .reading .before) ((k, octet) ∷ t .reading .fetched)
+  latest′ = let x = i .reading .within in (some, by-now, (found k (omega arith), latest-shows (t .written) (t .reading .before) (t .reading .fetched) (i .reading .latest)))
+
+  reading′ : (side : Side) (c : Bool) → closes (s .window) k ≡ c →
+      ReadingHeld m (s .window) (s .roles .fetch) (takenBy (accessed side (s .reading) k c)) (extent (s .window .length) (accessed side (s .reading) k c)) (record { before = t .reading .before; fetched = (k, octet) ∷ t .reading .fetched }) (t .written)
+  reading′ side false e =
+      let ne = leb-false (s .window .length) (k + 1) e in let x = i .reading .within in let y = extent-open (s .window .length) (s .reading) more in let z = i .reading .taken in
+      record { within = omega arith; taken = omega arith; latest = latest′; buffer = λ _. found }
+  reading′ side true e =
+      let is = leb-true (s .window .length) (k + 1) e in let x = i .reading .within in let y = extent-open (s .window .length) (s .reading) more in let z = i .reading .taken in
+      record { within = omega arith; taken = omega arith; latest = latest′; buffer = λ h. absurd (omega arith) }
+
+  kind⁗ : (q : Kind) (e d d′ : ℕ) (p : Bool) (rs : List Accesses) → (q ≡ Mailbox → (p ≡ true) × (t .reading .before ≡ length (t .written))) → KindHeld q e d p (t .written) (t .reading .before) rs → KindHeld q e d′ p (t .written) (t .reading .before) rs
+  kind⁗ Buffered e d d′ p rs g h = h
+  kind⁗ Mailbox e d d′ p rs g h = record { counts = h .counts; quiet = h .quiet; busy = λ _. g refl; in-order = h .in-order }
+
+  taken-more : Parts m (withFetch s k) (taking t k octet)
+  taken-more = record {
+    fits = i .fits; roles = i .roles; writing = i .writing; reading = reading′ _ (closes (s .window) k) refl; shown = i .shown; some = i .some; over = i .over;
+    kind = kind⁗ (s .window .kind) _ _ _ _ _ mail′ (i .kind)
+  }
+
+-- both together: a fetch in its turn, where a message is there if a reading opens
+module _ (m : List ℕ) (s : Service) (t : Story) (i : Parts m s t) (k : ℕ) (turn : k ≤ takenBy (s .reading)) (more : closedBy (s .reading) ≡ false)
+    (there : takenBy (s .reading) ≡ 0 → present (s .shown) ≡ true) where
+  pub fetched-if : (o : Bool) → eqb (takenBy (s .reading)) 0 ≡ o →
+      Parts m (withFetch (openedIf o s) k) (addFetch t k (getD m (placeIn (s .window) (numberOf (openedIf o s .roles .fetch)) k) 0))
+  fetched-if false e =
+      let p = numbers m s t i more there in
+      taken-more m s (numbered t) (opened-held m s t i more false e) k turn more (p .0) (p .1) (finds m s t i more there false e)
+      (mail m s t i more there (s .window .kind) (writingExtent s) (readingExtent s) (present (s .shown)) (t .read) (extent-open (s .window .length) (s .reading) more) there (i .kind))
+  fetched-if true e =
+      let p = numbers m s t i more there in
+      let g = mail m s t i more there (s .window .kind) (writingExtent s) (readingExtent s) (present (s .shown)) (t .read) (extent-open (s .window .length) (s .reading) more) there (i .kind) in
+      taken-more m (openedIf true s) (numbered t) (opened-held m s t i more true e) k turn more (p .0) (p .1) (finds m s t i more there true e)
+      (λ q. (sym (present-same m s t i more (s .shown)) ∙ g q .0, g q .1))
+
+-- A CLOSED READING COMPLETES.
+module _ (m : List ℕ) (s : Service) (t : Story) (i : Parts m s t) (closed : closedBy (s .reading) ≡ true) where
+  shut : extent (s .window .length) (s .reading) ≡ s .window .length
+  shut = extent-closed (s .window .length) (s .reading) closed
+
+  shown‴ : (q : Kind) → ShownHeld m (s .window) (s .roles) (emptied q (s .shown)) (t .written)
+  shown‴ Mailbox = tt
+  shown‴ Buffered = i .shown
+
+  some′ : (q : Kind) → present (emptied q (s .shown)) ≡ true → 0 < length (t .written)
+  some′ Mailbox e = absurd (false≢true e)
+  some′ Buffered e = i .some e
+
+  kind⁵ : (q : Kind) (e d : ℕ) → 0 < d → KindHeld q e d (present (s .shown)) (t .written) (t .reading .before) (t .read) → KindHeld q e 0 (present (emptied q (s .shown))) (t .written) 0 (t .read ++ (t .reading .fetched ∷ []))
+  kind⁵ Buffered e d g h = h
+  kind⁵ Mailbox e d g h =
+      let b = h .busy g in
+      let n = b .1 in
+      let c : length (t .written) ≡ length (t .read) + 1 = h .counts ∙ ap (λ (z : Bool). length (t .read) + cond z 1 0) (b .0) in
+      let l = length-push (t .read) (t .reading .fetched) in
+      record {
+        counts = omega arith; quiet = λ z. absurd (false≢true z); busy = λ z. absurd (omega arith);
+        in-order = λ j z.
+          ⊎-elim
+          (λ x. subst (Shows (getD (t .written) j [])) (sym (getD-append-left (t .read) (t .reading .fetched ∷ []) [] j x)) (h .in-order j x))
+          (λ x.
+            let at : length (t .read) ≡ j = omega arith in
+            let number : t .reading .before - 1 ≡ j = omega arith in
+            subst (Shows (getD (t .written) j [])) (sym (getD-push (t .read) (t .reading .fetched) [] j at))
+            (subst (λ (y : ℕ). Shows (getD (t .written) y []) (t .reading .fetched)) number (latest-shows (t .written) (t .reading .before) (t .reading .fetched) (i .reading .latest))))
+          (cases-lt j (length (t .read)))
+      }
+
+  pub reading-completes : Parts m (readingDone s) (readingCompleted t)
+  reading-completes =
+      let two = i .fits .long in let f = shut in
+      record {
+        fits = i .fits; roles = i .roles; writing = i .writing;
+        reading = record { within = omega arith; taken = refl; latest = tt; buffer = λ h. absurd (omega arith) };
+        shown = shown‴ (s .window .kind); some = some′ (s .window .kind); over = (i .reading .latest, i .over);
+        kind = kind⁵ (s .window .kind) _ _ (omega arith) (i .kind)
+      }
+
+-- A FRAME'S END
+module _ (m : List ℕ) (s : Service) (t : Story) (i : Parts m s t) where
+  kind⁶ : (q : Kind) (e d d′ : ℕ) (p : Bool) (ws : List Accesses) (b b′ : ℕ) (rs : List Accesses) → d′ ≡ 0 → KindHeld q e d p ws b rs → KindHeld q e d′ p ws b′ rs
+  kind⁶ Buffered e d d′ p ws b b′ rs z h = h
+  kind⁶ Mailbox e d d′ p ws b b′ rs z h = record { counts = h .counts; quiet = h .quiet; busy = λ g. absurd (omega arith); in-order = h .in-order }
+
+  kind⁷ : (q : Kind) (e d : ℕ) (p : Bool) (ws : List Accesses) (b : ℕ) (rs : List Accesses) → KindHeld q e d p ws b rs → KindHeld q 0 d p ws b rs
+  kind⁷ Buffered e d p ws b rs h = h
+  kind⁷ Mailbox e d p ws b rs h = record { counts = h .counts; quiet = λ _. refl; busy = h .busy; in-order = h .in-order }
+
+  abbrev with-writing : Transaction → Service
+  with-writing x = record { window = s .window; writing = x; reading = s .reading; roles = s .roles; shown = s .shown; «write_event» = s .«write_event»; «read_event» = s .«read_event» }
+
+  abbrev with-reading : Transaction → Service
+  with-reading x = record { window = s .window; writing = s .writing; reading = x; roles = s .roles; shown = s .shown; «write_event» = s .«write_event»; «read_event» = s .«read_event» }
+
+  -- a writing is cancelled, or goes on
+  pub writing-cancelled : (b : Bool) → Parts m (with-writing (cond b Idle (s .writing))) (when b writingCancelled t)
+  writing-cancelled true =
+      let two = i .fits .long in
+      record {
+        fits = i .fits; roles = i .roles; writing = record { within = omega arith; taken = refl; content = λ j h. absurd (omega arith) };
+        reading = i .reading; shown = i .shown; some = i .some; over = i .over; kind = kind⁷ (s .window .kind) _ _ _ _ _ _ (i .kind)
+      }
+  writing-cancelled false = record { fits = i .fits; roles = i .roles; writing = i .writing; reading = i .reading; shown = i .shown; some = i .some; over = i .over; kind = i .kind }
+
+  pub reading-cancelled : (b : Bool) → Parts m (with-reading (cond b Idle (s .reading))) (when b readingCancelled t)
+  reading-cancelled true =
+      let two = i .fits .long in
+      record {
+        fits = i .fits; roles = i .roles; writing = i .writing;
+        reading = record { within = omega arith; taken = refl; latest = tt; buffer = λ h. absurd (omega arith) };
+        shown = i .shown; some = i .some; over = (i .reading .latest, i .over); kind = kind⁶ (s .window .kind) _ _ _ _ _ _ _ _ refl (i .kind)
+      }
+  reading-cancelled false = record { fits = i .fits; roles = i .roles; writing = i .writing; reading = i .reading; shown = i .shown; some = i .some; over = i .over; kind = i .kind }
+
+  left-taken : (x : Transaction) → takenBy x ≡ takenBy (left x)
+  left-taken Idle = refl
+  left-taken (Open n f) = refl
+  left-taken Waiting = refl
+
+  left-extent : (L : ℕ) (x : Transaction) → closedBy x ≡ false → extent L x ≡ extent L (left x)
+  left-extent L Idle e = refl
+  left-extent L (Open n f) e = refl
+  left-extent L Waiting e = absurd (true≢false e)
+
+  pub frame-left : closedBy (s .writing) ≡ false → closedBy (s .reading) ≡ false → Parts m (frameLeft s) t
+  frame-left p q =
+      let wt = left-taken (s .writing) in let we = left-extent (s .window .length) (s .writing) p in
+      let rt = left-taken (s .reading) in let re = left-extent (s .window .length) (s .reading) q in
+      record {
+        fits = i .fits; roles = i .roles;
+        writing = subst₂ (λ (n e : ℕ). WritingHeld m (s .window) (s .roles .store) n e (t .writing)) wt we (i .writing);
+        reading = subst₂ (λ (n e : ℕ). ReadingHeld m (s .window) (s .roles .fetch) n e (t .reading) (t .written)) rt re (i .reading);
+        shown = i .shown; some = i .some; over = i .over;
+        kind = subst₂ (λ (e d : ℕ). KindHeld (s .window .kind) e d (present (s .shown)) (t .written) (t .reading .before) (t .read)) we re (i .kind)
+      }
+
+  -- what is told of the running frame is no part of it
+  pub frame-over : Parts m s (frameOver t)
+  frame-over = record { fits = i .fits; roles = i .roles; writing = i .writing; reading = i .reading; shown = i .shown; some = i .some; over = i .over; kind = i .kind }
+
+  pub frame-noted : (side : Side) (c : Bool) → Parts m s (noted side c t)
+  frame-noted Master c = record { fits = i .fits; roles = i .roles; writing = i .writing; reading = i .reading; shown = i .shown; some = i .some; over = i .over; kind = i .kind }
+  frame-noted Local c = i
+
+-- ANOTHER MEMORY that agrees with this one on the area
+abbrev pub Agree : Window → List ℕ → List ℕ → Type 0
+Agree w m n = (p : ℕ) → w .start - 0x1000 ≤ p → p < w .start - 0x1000 + areaSize w → getD n p 0 ≡ getD m p 0
+
+module _ (m n : List ℕ) (s : Service) (t : Story) (i : Parts m s t) (long : length n ≡ length m) (agree : Agree (s .window) m n) where
+  there : (b : Buffer) (j : ℕ) → j < s .window .length → getD m (placeIn (s .window) (numberOf b) j) 0 ≡ getD n (placeIn (s .window) (numberOf b) j) 0
+  there b j jl = sym (agree (placeIn (s .window) (numberOf b) j) (place-from (s .window) (numberOf b) j) (place-below (s .window) b j jl))
+
+  holds : (b : Buffer) (w : Accesses) → Holds m (s .window) b w → Holds n (s .window) b w
+  holds b w h j jl = h j jl ∙ ap Some (there b j jl)
+
+  shown⁴ : (x : Shown) → ShownHeld m (s .window) (s .roles) x (t .written) → ShownHeld n (s .window) (s .roles) x (t .written)
+  shown⁴ Nothing h = tt
+  shown⁴ Ready h = holds (s .roles .ready) _ h
+  shown⁴ Fetch h = holds (s .roles .fetch) _ h
+
+  extent-within : (L : ℕ) (x : Transaction) → takenBy x < L → extent L x ≤ L
+  extent-within L Idle h = omega arith
+  extent-within L (Open k f) h = omega arith
+  extent-within L Waiting h = omega arith
+
+  pub elsewhere-held : Parts n s t
+  elsewhere-held =
+      let x = extent-within (s .window .length) (s .writing) (i .writing .within) in
+      record {
+        fits = record { long = i .fits .long; room = subst (λ (z : ℕ). inMemory z (s .window) ≡ true) (sym long) (i .fits .room) };
+        roles = i .roles;
+        writing = record { within = i .writing .within; taken = i .writing .taken; content = λ j h. i .writing .content j h ∙ ap Some (there (s .roles .store) j (omega arith)) };
+        reading = record { within = i .reading .within; taken = i .reading .taken; latest = i .reading .latest; buffer = λ h. holds (s .roles .fetch) _ (i .reading .buffer h) };
+        shown = shown⁴ (s .shown) (i .shown); some = i .some; over = i .over; kind = i .kind
+      }

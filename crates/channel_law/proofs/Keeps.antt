@@ -1,0 +1,192 @@
+-- Each call keeps the invariant: a done store, a done fetch, a kept and a dropped frame end, an enabling, a change of the memory outside the area.
+-- Assumes nothing.
+use mathlib.Core.Path.{_≡_, refl, sym, ap, subst, subst₂, _∙_}
+use mathlib.Core.Logic.{_≢_, _⊎_, inl, inr, ⊎-elim}
+use mathlib.Core.List.{List, [], _∷_, _++_}
+use mathlib.Core.Bool.{Bool, true, false, cond, not, _&&_, _||_}
+use Prim.Native.Nat.{ℕ, _+_, _-_, _*_, _<_, _≤_}
+use native.Mathlib.Omega.{arith}
+use lib.Dec.{leb, ltb, eqb}
+use lib.ListN.{length, getD, set}
+use Rattle.std.proofs.shelf.Lists.{getD-set-other, length-set}
+use Rattle.std.proofs.shelf.Tests.{leb-true, leb-false, le-leb, lt-leb, eq-eqb, ne-eqb, lt-ltb, le-ltb, cases-eq, cases-lt, cases-bool, and-cases, or-parts, true≢false, false≢true}
+use Rattle.std.specs.declared.result.Result.the-variants.{Ok, Err}
+use Rattle.access.specs.declared.Side.{Side}
+use Rattle.access.specs.declared.Side.the-variants.{Master, Local}
+use Rattle.access.specs.declared.Direction.the-variants.{Read, Write}
+use Rattle.channel.specs.declared.setting.Kind.{Kind}
+use Rattle.channel.specs.declared.setting.Kind.the-variants.{Buffered, Mailbox}
+use Rattle.channel.specs.declared.setting.Window.{Window}
+use Rattle.channel.specs.declared.facts.Facts.{Facts}
+use Rattle.channel.specs.declared.service.Transaction.{Transaction}
+use Rattle.channel.specs.declared.service.Transaction.the-variants.{Idle, Open, Waiting}
+use Rattle.channel.specs.declared.service.Service.{Service}
+use Rattle.channel.specs.Facts.{isMaster, takenOf, asked}
+use Rattle.channel.specs.Windows.{areaSize, placeIn}
+use Rattle.channel.specs.Services.{takenBy, touchedBy, closedBy, closes, accessed, left, cancelled, numberOf, present, begun, factsOf, writingDoneIf, readingDoneIf, atOnce, otherSide, withStore, afterStore, openedIf, withFetch, afterFetch, storePlace, fetchPlace, frameLeft, afterKept, afterDropped}
+use Rattle.channel_law.specs.Story.{Accesses, Story, newStory, takenIn, none, closedWriting, closedReading, messageTold, factsIn, factsTold, addStore, addFetch, noted, writingCompleted, writingCancelled, readingCompleted, readingCancelled, when, closing, storedIn, fetchedIn, storedAt, fetchedAt, frameOver, keptIn, droppedIn, keptStory, droppedStory}
+use Rattle.channel_law.specs.Runs.{inArea}
+use Rattle.channel_law.specs.Law.{Fits}
+use Rattle.channel_law.proofs.Held.{extent, KindHeld, MailboxHeld, Parts, FlagsOf, Flags, Held}
+use Rattle.channel_law.proofs.Steps.{extent-open, writingExtent, readingExtent, stored, writing-completes, fetched-if, reading-completes, writing-cancelled, reading-cancelled, frame-left, frame-over, frame-noted, Agree, elsewhere-held}
+use Rattle.channel_law.proofs.Asked.{Allowed, allowed, opens-write, opens-read, side-writes, side-reads}
+
+-- AT AN ENABLING
+begun-kind : (q : Kind) → KindHeld q 0 0 false [] 0 []
+begun-kind Buffered = refl
+begun-kind Mailbox = record { counts = refl; quiet = λ e. absurd (false≢true e); busy = λ h. absurd (omega arith); in-order = λ n h. absurd (omega arith) }
+
+begun-flags : (p : Side) → Flags p Idle Idle false false
+begun-flags Master = record { touched = refl; closed = refl; local-touched = refl; local-closed = refl }
+begun-flags Local = record { touched = refl; closed = refl; local-touched = refl; local-closed = refl }
+
+pub begun-held : (m : List ℕ) (w : Window) → Fits (length m) w → Held m (begun w) (newStory w)
+begun-held m w fits =
+    let two = fits .long in
+    record {
+      same = refl;
+      parts = record {
+        fits = fits;
+        roles = record { store-ready = λ e. omega arith; store-fetch = λ e. omega arith; ready-fetch = λ e. omega arith };
+        writing = record { within = omega arith; taken = refl; content = λ j h. absurd (omega arith) };
+        reading = record { within = omega arith; taken = refl; latest = tt; buffer = λ h. absurd (omega arith) };
+        shown = tt; some = λ e. absurd (false≢true e); over = tt; kind = begun-kind (w .kind)
+      };
+      flags = begun-flags (w .stores)
+    }
+
+-- THE FACTS that the service gives are those that the story tells.
+stored-open : (L : ℕ) (x : Transaction) → takenBy x ≡ cond (closedBy x) 0 (extent L x)
+stored-open L Idle = refl
+stored-open L (Open n f) = refl
+stored-open L Waiting = refl
+
+taken-master : (L : ℕ) (x : Transaction) (c : Bool) (n : ℕ) → closedBy x ≡ c → n ≡ extent L x → takenBy x ≡ cond c 0 n
+taken-master L x c n e g = stored-open L x ∙ (ap (λ (b : Bool). cond b 0 (extent L x)) e ∙ ap (cond c 0) (sym g))
+
+stored-told : (p : Side) (L : ℕ) (x y : Transaction) (u c : Bool) (n : ℕ) → Flags p x y u c → n ≡ extent L x → takenBy x ≡ cond (isMaster p && c) 0 n
+stored-told Master L x y u c n f g = taken-master L x c n (f .closed) g
+stored-told Local L x y u c n f g = sym (extent-open L x (f .local-closed)) ∙ sym g
+
+fetched-told : (p : Side) (L : ℕ) (x y : Transaction) (u c : Bool) (n : ℕ) → Flags p x y u c → n ≡ extent L y → takenBy y ≡ cond (isMaster (otherSide p) && c) 0 n
+fetched-told Master L x y u c n f g = sym (extent-open L y (f .local-closed)) ∙ sym g
+fetched-told Local L x y u c n f g = taken-master L y c n (f .closed) g
+
+or-false : (b : Bool) → (b || false) ≡ b
+or-false true = refl
+or-false false = refl
+
+closed-told : (p : Side) (x y : Transaction) (u c : Bool) → Flags p x y u c → (closedBy x || closedBy y) ≡ c
+closed-told Master x y u c f = ap (λ (b : Bool). closedBy x || b) (f .local-closed) ∙ (or-false (closedBy x) ∙ f .closed)
+closed-told Local x y u c f = ap (λ (b : Bool). b || closedBy y) (f .local-closed) ∙ f .closed
+
+mailbox-told : (e d : ℕ) (p : Bool) (ws : List Accesses) (b : ℕ) (rs : List Accesses) → MailboxHeld e d p ws b rs → p ≡ ltb (length rs) (length ws)
+mailbox-told e d true ws b rs h = let c = h .counts in sym (lt-ltb (length rs) (length ws) (omega arith))
+mailbox-told e d false ws b rs h = let c = h .counts in sym (le-ltb (length rs) (length ws) (omega arith))
+
+message-told : (q : Kind) (e d : ℕ) (p : Bool) (t : Story) → KindHeld q e d p (t .written) (t .reading .before) (t .read) → p ≡ messageTold q t
+message-told Buffered e d p t h = h
+message-told Mailbox e d p t h = mailbox-told e d p (t .written) (t .reading .before) (t .read) h
+
+facts-are : (w : Window) (a a′ b b′ : ℕ) (c c′ g g′ : Bool) → a ≡ a′ → b ≡ b′ → c ≡ c′ → g ≡ g′ →
+    _≡_ {A = Facts} (record { window = w; stored = a; fetched = b; closed = c; message = g }) (record { window = w; stored = a′; fetched = b′; closed = c′; message = g′ })
+facts-are w a a′ b b′ c c′ g g′ p q r s = cc
+
+pub facts-agree : (m : List ℕ) (s : Service) (t : Story) → Held m s t → factsOf s ≡ factsTold t
+facts-agree m s t h =
+    let i = h .parts in
+    let inside : factsOf s ≡ factsIn (s .window) t =
+          facts-are (s .window) _ _ _ _ _ _ _ _
+          (stored-told (s .window .stores) (s .window .length) (s .writing) (s .reading) (t .touched) (t .closed) _ (h .flags) (i .writing .taken))
+          (fetched-told (s .window .stores) (s .window .length) (s .writing) (s .reading) (t .touched) (t .closed) _ (h .flags) (i .reading .taken))
+          (closed-told (s .window .stores) (s .writing) (s .reading) (t .touched) (t .closed) (h .flags))
+          (message-told (s .window .kind) (writingExtent s) (readingExtent s) (present (s .shown)) t (i .kind)) in
+    subst (λ (w : Window). factsOf s ≡ factsIn w t) (h .same) inside
+
+-- A DONE ACCESS. The last offset closes.
+closes-told : (w : Window) (k : ℕ) → k < w .length → closes w k ≡ closing w k
+closes-told w k h =
+    ⊎-elim
+    (λ (e : k + 1 ≡ w .length). le-leb (w .length) (k + 1) (omega arith) ∙ sym (eq-eqb (k + 1) (w .length) e))
+    (λ ne. lt-leb (w .length) (k + 1) (omega arith) ∙ sym (ne-eqb (k + 1) (w .length) ne))
+    (cases-eq (k + 1) (w .length))
+
+at-once-closes : (p side : Side) (x : Transaction) (k : ℕ) (c : Bool) → atOnce p c ≡ true → closedBy (accessed side x k c) ≡ true
+at-once-closes Master side x k c e = absurd (false≢true e)
+at-once-closes Local side x k true e = refl
+at-once-closes Local side x k false e = absurd (false≢true e)
+
+finish-writing : (m : List ℕ) (b : Bool) (s : Service) (t : Story) → (b ≡ true → closedBy (s .writing) ≡ true) → Parts m s t → Parts m (writingDoneIf b s) (when b writingCompleted t)
+finish-writing m true s t was i = writing-completes m s t i (was refl)
+finish-writing m false s t was i = i
+
+finish-reading : (m : List ℕ) (b : Bool) (s : Service) (t : Story) → (b ≡ true → closedBy (s .reading) ≡ true) → Parts m s t → Parts m (readingDoneIf b s) (when b readingCompleted t)
+finish-reading m true s t was i = reading-completes m s t i (was refl)
+finish-reading m false s t was i = i
+
+-- the window stays
+window-writing : (b : Bool) (s : Service) → s .window ≡ writingDoneIf b s .window
+window-writing true s = refl
+window-writing false s = refl
+
+window-reading : (b : Bool) (s : Service) → s .window ≡ readingDoneIf b s .window
+window-reading true s = refl
+window-reading false s = refl
+
+window-noted : (p : Side) (c : Bool) (t : Story) → noted p c t .window ≡ t .window
+window-noted Master c t = refl
+window-noted Local c t = refl
+
+window-when : (b : Bool) (f : Story → Story) → ((t : Story) → f t .window ≡ t .window) → (t : Story) → when b f t .window ≡ t .window
+window-when true f same t = same t
+window-when false f same t = refl
+
+-- the master's access is noted, the local side's is not
+flags-store : (p : Side) (c : Bool) (r : Service) (t : Story) (x : Transaction) (k : ℕ) → r .writing ≡ accessed p x k c → Flags p x (r .reading) (t .touched) (t .closed) →
+    Flags p (writingDoneIf (atOnce p c) r .writing) (writingDoneIf (atOnce p c) r .reading) (when (atOnce p c) writingCompleted (noted p c t) .touched) (when (atOnce p c) writingCompleted (noted p c t) .closed)
+flags-store Master true r t x k e f = record { touched = ap touchedBy e; closed = ap closedBy e; local-touched = f .local-touched; local-closed = f .local-closed }
+flags-store Master false r t x k e f = record { touched = ap touchedBy e; closed = ap closedBy e; local-touched = f .local-touched; local-closed = f .local-closed }
+flags-store Local true r t x k e f = record { touched = f .touched; closed = f .closed; local-touched = refl; local-closed = refl }
+flags-store Local false r t x k e f = record { touched = f .touched; closed = f .closed; local-touched = ap touchedBy e; local-closed = ap closedBy e }
+
+flags-fetch : (p : Side) (c : Bool) (r : Service) (t : Story) (y : Transaction) (k : ℕ) → r .reading ≡ accessed (otherSide p) y k c → Flags p (r .writing) y (t .touched) (t .closed) →
+    Flags p (readingDoneIf (atOnce (otherSide p) c) r .writing) (readingDoneIf (atOnce (otherSide p) c) r .reading) (when (atOnce (otherSide p) c) readingCompleted (noted (otherSide p) c t) .touched) (when (atOnce (otherSide p) c) readingCompleted (noted (otherSide p) c t) .closed)
+flags-fetch Local true r t y k e f = record { touched = ap touchedBy e; closed = ap closedBy e; local-touched = f .local-touched; local-closed = f .local-closed }
+flags-fetch Local false r t y k e f = record { touched = ap touchedBy e; closed = ap closedBy e; local-touched = f .local-touched; local-closed = f .local-closed }
+flags-fetch Master true r t y k e f = record { touched = f .touched; closed = f .closed; local-touched = refl; local-closed = refl }
+flags-fetch Master false r t y k e f = record { touched = f .touched; closed = f .closed; local-touched = ap touchedBy e; local-closed = ap closedBy e }
+
+-- no closed transaction of the access's direction waits
+writing-open : (p : Side) (x y : Transaction) (u c : Bool) → Flags p x y u c → (isMaster p && (closedBy x || closedBy y)) ≡ false → closedBy x ≡ false
+writing-open Master x y u c f e = or-parts (closedBy x) (closedBy y) e .0
+writing-open Local x y u c f e = f .local-closed
+
+reading-open : (p : Side) (x y : Transaction) (u c : Bool) → Flags p x y u c → (isMaster (otherSide p) && (closedBy x || closedBy y)) ≡ false → closedBy y ≡ false
+reading-open Master x y u c f e = f .local-closed
+reading-open Local x y u c f e = or-parts (closedBy x) (closedBy y) e .1
+
+-- a mailbox that is stored into is not full
+not-full : (q : Kind) (e d : ℕ) (p : Bool) (ws : List Accesses) (b : ℕ) (rs : List Accesses) (n : ℕ) → KindHeld q e d p ws b rs → e ≡ n → (n ≡ 0 → q ≡ Mailbox → p ≡ false) → q ≡ Mailbox → p ≡ false
+not-full Buffered e d p ws b rs n h z g m = absurd (let y : _≡_ {A = ℕ} 0 1 = cc in omega arith)
+not-full Mailbox e d p ws b rs n h z g m = ⊎-elim (λ f. g (sym z ∙ h .quiet f) refl) (λ f. f) (cases-bool p)
+
+pub store-held : (m : List ℕ) (s : Service) (t : Story) → Held m s t → (side : Side) (k v j : ℕ) → asked (factsOf s) side Write k ≡ Ok j → Held (set m (storePlace s k) v) (afterStore s k) (storedAt k v t)
+store-held m s t h side k v j e =
+    let i = h .parts in
+    let p = s .window .stores in
+    let c = closes (s .window) k in
+    let a = allowed (factsOf s) side Write k j e in
+    let who = side-writes side p (a .right-side) in
+    let more = writing-open p (s .writing) (s .reading) (t .touched) (t .closed) (h .flags) (subst (λ (z : Side). (isMaster z && (closedBy (s .writing) || closedBy (s .reading))) ≡ false) who (a .not-closed)) in
+    let free = not-full (s .window .kind) (writingExtent s) (readingExtent s) (present (s .shown)) (t .written) (t .reading .before) (t .read) (takenBy (s .writing)) (i .kind) (extent-open (s .window .length) (s .writing) more) (λ z. opens-write (s .window .kind) (present (s .shown)) k j (a .may-open z)) in
+    let one : Parts (set m (storePlace s k) v) (withStore s k) (addStore t k v) = stored m s t i k v (a .not-ahead) more free in
+    let two : Parts (set m (storePlace s k) v) (withStore s k) (noted p c (addStore t k v)) = frame-noted (set m (storePlace s k) v) (withStore s k) (addStore t k v) one p c in
+    let all : Held (set m (storePlace s k) v) (afterStore s k) (when (atOnce p c) writingCompleted (noted p c (addStore t k v))) =
+          record {
+            same = sym (window-writing (atOnce p c) (withStore s k)) ∙ (h .same ∙ sym (window-when (atOnce p c) writingCompleted (λ _. refl) (noted p c (addStore t k v)) ∙ window-noted p c (addStore t k v)));
+            parts = finish-writing (set m (storePlace s k) v) (atOnce p c) (withStore s k) (noted p c (addStore t k v)) (at-once-closes p p (s .writing) k c) two;
+            flags = subst (λ (w : Window). Flags (w .stores) (afterStore s k .writing) (afterStore s k .reading) (when (atOnce p c) writingCompleted (noted p c (addStore t k v)) .touched) (when (atOnce p c) writingCompleted (noted p c (addStore t k v)) .closed)) (window-writing (atOnce p c) (withStore s k))
+              (flags-store p c (withStore s k) (addStore t k v) (s .writing) k refl (h .flags))
+          } in
+    let told : Held (set m (storePlace s k) v) (afterStore s k) (storedIn (s .window) k v t) = subst (λ (b : Bool). Held (set m (storePlace s k) v) (afterStore s k) (when (atOnce p b) writingCompleted (noted p b (addStore t k v)))) (closes-told (s .window) k (a .in-window)) all in
+    subst (λ (w : Window). Held (set m (storePlace s k) v) (afterStore s k) (storedIn w k v t)) (h .same) told
