@@ -9,7 +9,7 @@ use native.Mathlib.Omega.{arith}
 use lib.Dec.{leb, ltb, eqb}
 use lib.ListN.{length, getD, set}
 use Rattle.std.proofs.shelf.Lists.{getD-set-other, length-set}
-use Rattle.std.proofs.shelf.Tests.{leb-true, leb-false, le-leb, lt-leb, eq-eqb, ne-eqb, lt-ltb, le-ltb, cases-eq, cases-lt, cases-bool, and-cases, or-parts, true≢false, false≢true}
+use Rattle.std.proofs.shelf.Tests.{leb-true, leb-false, le-leb, lt-leb, eq-eqb, ne-eqb, lt-ltb, le-ltb, ltb-false, and-from, cases-eq, cases-lt, cases-bool, and-cases, or-parts, true≢false, false≢true}
 use Rattle.std.specs.declared.result.Result.the-variants.{Ok, Err}
 use Rattle.access.specs.declared.Side.{Side}
 use Rattle.access.specs.declared.Side.the-variants.{Master, Local}
@@ -29,6 +29,7 @@ use Rattle.channel_law.specs.Runs.{inArea}
 use Rattle.channel_law.specs.Law.{Fits}
 use Rattle.channel_law.proofs.Held.{extent, KindHeld, MailboxHeld, Parts, FlagsOf, Flags, Held}
 use Rattle.channel_law.proofs.Steps.{extent-open, writingExtent, readingExtent, stored, writing-completes, fetched-if, reading-completes, writing-cancelled, reading-cancelled, frame-left, frame-over, frame-noted, Agree, elsewhere-held}
+use Rattle.channel_law.proofs.Places.{place-from, place-below, place-exists}
 use Rattle.channel_law.proofs.Asked.{Allowed, allowed, opens-write, opens-read, side-writes, side-reads}
 
 -- AT AN ENABLING
@@ -190,3 +191,180 @@ store-held m s t h side k v j e =
           } in
     let told : Held (set m (storePlace s k) v) (afterStore s k) (storedIn (s .window) k v t) = subst (λ (b : Bool). Held (set m (storePlace s k) v) (afterStore s k) (when (atOnce p b) writingCompleted (noted p b (addStore t k v)))) (closes-told (s .window) k (a .in-window)) all in
     subst (λ (w : Window). Held (set m (storePlace s k) v) (afterStore s k) (storedIn w k v t)) (h .same) told
+
+-- the octet that a fetch finds, once the buffer is chosen
+abbrev fetchedBy : List ℕ → Service → (opening : Bool) → ℕ → ℕ
+fetchedBy m s o k = getD m (placeIn (s .window) (numberOf (openedIf o s .roles .fetch)) k) 0
+
+-- a fetch whose transaction r has noted: it completes at once, or waits, or stays open
+fetch-finish : (m : List ℕ) (s : Service) (t : Story) → Held m s t → (k v : ℕ) (r : Service) → k < s .window .length → r .window ≡ s .window → r .writing ≡ s .writing →
+    r .reading ≡ accessed (otherSide (s .window .stores)) (s .reading) k (closes (s .window) k) → Parts m r (addFetch t k v) →
+    Held m (readingDoneIf (atOnce (otherSide (s .window .stores)) (closes (s .window) k)) r) (fetchedAt k v t)
+fetch-finish m s t h k v r kl same-window same-writing is i =
+    let p = s .window .stores in
+    let c = closes (s .window) k in
+    let b = atOnce (otherSide p) c in
+    let two : Parts m r (noted (otherSide p) c (addFetch t k v)) = frame-noted m r (addFetch t k v) i (otherSide p) c in
+    let all : Held m (readingDoneIf b r) (when b readingCompleted (noted (otherSide p) c (addFetch t k v))) =
+          record {
+            same = sym (window-reading b r) ∙ (same-window ∙ (h .same ∙ sym (window-when b readingCompleted (λ _. refl) (noted (otherSide p) c (addFetch t k v)) ∙ window-noted (otherSide p) c (addFetch t k v))));
+            parts = finish-reading m b r (noted (otherSide p) c (addFetch t k v)) (λ z. ap closedBy is ∙ at-once-closes (otherSide p) (otherSide p) (s .reading) k c z) two;
+            flags = subst (λ (w : Window). Flags (w .stores) (readingDoneIf b r .writing) (readingDoneIf b r .reading) (when b readingCompleted (noted (otherSide p) c (addFetch t k v)) .touched) (when b readingCompleted (noted (otherSide p) c (addFetch t k v)) .closed)) (sym same-window ∙ window-reading b r)
+              (flags-fetch p c r (addFetch t k v) (s .reading) k is (subst (λ (x : Transaction). Flags p x (s .reading) (t .touched) (t .closed)) (sym same-writing) (h .flags)))
+          } in
+    let told : Held m (readingDoneIf b r) (fetchedIn (s .window) k v t) = subst (λ (z : Bool). Held m (readingDoneIf b r) (when (atOnce (otherSide p) z) readingCompleted (noted (otherSide p) z (addFetch t k v)))) (closes-told (s .window) k kl) all in
+    subst (λ (w : Window). Held m (readingDoneIf b r) (fetchedIn w k v t)) (h .same) told
+
+fetch-by : (m : List ℕ) (s : Service) (t : Story) → Held m s t → (k : ℕ) → k < s .window .length → (o : Bool) → Parts m (withFetch (openedIf o s) k) (addFetch t k (fetchedBy m s o k)) →
+    Held m (readingDoneIf (atOnce (otherSide (s .window .stores)) (closes (s .window) k)) (withFetch (openedIf o s) k)) (fetchedAt k (fetchedBy m s o k) t)
+fetch-by m s t h k kl true i = fetch-finish m s t h k (fetchedBy m s true k) (withFetch (openedIf true s) k) kl refl refl refl i
+fetch-by m s t h k kl false i = fetch-finish m s t h k (fetchedBy m s false k) (withFetch (openedIf false s) k) kl refl refl refl i
+
+window-opened : (s : Service) (o : Bool) (k b : ℕ) → placeIn (openedIf o s .window) b k ≡ placeIn (s .window) b k
+window-opened s true k b = refl
+window-opened s false k b = refl
+
+pub fetch-held : (m : List ℕ) (s : Service) (t : Story) → Held m s t → (side : Side) (k j : ℕ) → asked (factsOf s) side Read k ≡ Ok j → Held m (afterFetch s k) (fetchedAt k (getD m (fetchPlace s k) 0) t)
+fetch-held m s t h side k j e =
+    let i = h .parts in
+    let p = s .window .stores in
+    let a = allowed (factsOf s) side Read k j e in
+    let who = side-reads side p (a .right-side) in
+    let more = reading-open p (s .writing) (s .reading) (t .touched) (t .closed) (h .flags) (subst (λ (z : Side). (isMaster z && (closedBy (s .writing) || closedBy (s .reading))) ≡ false) who (a .not-closed)) in
+    let one = fetched-if m s t i k (a .not-ahead) more (λ z. opens-read (s .window .kind) (present (s .shown)) k j (a .may-open z)) (eqb (takenBy (s .reading)) 0) refl in
+    fetch-by m s t h k (a .in-window) (eqb (takenBy (s .reading)) 0) one
+
+-- A FRAME'S END
+flags-over : (p : Side) (x y : Transaction) → touchedBy x ≡ false → closedBy x ≡ false → touchedBy y ≡ false → closedBy y ≡ false → Flags p x y false false
+flags-over Master x y a b c d = record { touched = a; closed = b; local-touched = c; local-closed = d }
+flags-over Local x y a b c d = record { touched = c; closed = d; local-touched = a; local-closed = b }
+
+left-touched : (x : Transaction) → touchedBy (left x) ≡ false
+left-touched Idle = refl
+left-touched (Open n f) = refl
+left-touched Waiting = refl
+
+left-closed : (x : Transaction) → closedBy (left x) ≡ false
+left-closed Idle = refl
+left-closed (Open n f) = refl
+left-closed Waiting = refl
+
+cancelled-touched : (x : Transaction) → touchedBy (cancelled x) ≡ false
+cancelled-touched Idle = refl
+cancelled-touched (Open n true) = refl
+cancelled-touched (Open n false) = refl
+cancelled-touched Waiting = refl
+
+cancelled-closed : (x : Transaction) → closedBy (cancelled x) ≡ false
+cancelled-closed Idle = refl
+cancelled-closed (Open n true) = refl
+cancelled-closed (Open n false) = refl
+cancelled-closed Waiting = refl
+
+-- what waits completes: then nothing waits
+abbrev completed : Service → (b c : Bool) → Service
+completed s b c = readingDoneIf c (writingDoneIf b s)
+
+writing-free : (s : Service) (b c : Bool) → closedBy (s .writing) ≡ b → closedBy (completed s b c .writing) ≡ false
+writing-free s true true e = refl
+writing-free s true false e = refl
+writing-free s false true e = e
+writing-free s false false e = e
+
+reading-free : (s : Service) (b c : Bool) → closedBy (s .reading) ≡ c → closedBy (completed s b c .reading) ≡ false
+reading-free s true true e = refl
+reading-free s true false e = e
+reading-free s false true e = refl
+reading-free s false false e = e
+
+reading-waits : (s : Service) (b : Bool) → closedBy (s .reading) ≡ true → closedBy (writingDoneIf b s .reading) ≡ true
+reading-waits s true e = e
+reading-waits s false e = e
+
+window-completed : (s : Service) (b c : Bool) → s .window ≡ completed s b c .window
+window-completed s b c = window-writing b s ∙ window-reading c (writingDoneIf b s)
+
+-- a frame's end as it is told, from the service's own record of it
+kept-told : (m : List ℕ) (s : Service) (t : Story) (p : Side) (x y : Transaction) → Flags p x y (t .touched) (t .closed) →
+    Parts m s (frameOver (when (closedBy y) readingCompleted (when (closedBy x) writingCompleted t))) → Parts m s (keptIn p t)
+kept-told m s t Master x y f i =
+    subst₂ (λ (b c : Bool). Parts m s (frameOver (when c readingCompleted (when b writingCompleted t)))) (f .closed) (f .local-closed) i
+kept-told m s t Local x y f i =
+    subst₂ (λ (b c : Bool). Parts m s (frameOver (when c readingCompleted (when b writingCompleted t)))) (f .local-closed) (f .closed) i
+
+dropped-told : (m : List ℕ) (s : Service) (t : Story) (p : Side) (x y : Transaction) → Flags p x y (t .touched) (t .closed) →
+    Parts m s (frameOver (when (touchedBy y) readingCancelled (when (touchedBy x) writingCancelled t))) → Parts m s (droppedIn p t)
+dropped-told m s t Master x y f i =
+    subst₂ (λ (b c : Bool). Parts m s (frameOver (when c readingCancelled (when b writingCancelled t)))) (f .touched) (f .local-touched) i
+dropped-told m s t Local x y f i =
+    subst₂ (λ (b c : Bool). Parts m s (frameOver (when c readingCancelled (when b writingCancelled t)))) (f .local-touched) (f .touched) i
+
+-- the story of a frame's end notes nothing of a running frame, and keeps the window
+pub record Over (t t′ : Story) : Type 0 where
+  pub touched : t′ .touched ≡ false
+  pub closed : t′ .closed ≡ false
+  pub window : t′ .window ≡ t .window
+
+over-kept : (p : Side) (t : Story) → Over t (keptIn p t)
+over-kept Master t = record { touched = refl; closed = refl; window = window-when (t .closed) writingCompleted (λ _. refl) t }
+over-kept Local t = record { touched = refl; closed = refl; window = window-when (t .closed) readingCompleted (λ _. refl) t }
+
+over-dropped : (p : Side) (t : Story) → Over t (droppedIn p t)
+over-dropped Master t = record { touched = refl; closed = refl; window = window-when (t .touched) writingCancelled (λ _. refl) t }
+over-dropped Local t = record { touched = refl; closed = refl; window = window-when (t .touched) readingCancelled (λ _. refl) t }
+
+over-held : (m : List ℕ) (s r : Service) (t t′ : Story) → s .window ≡ t .window → s .window ≡ r .window → Over t t′ → Parts m r t′ → Flags (r .window .stores) (r .writing) (r .reading) false false → Held m r t′
+over-held m s r t t′ same stays o i f =
+    record {
+      same = sym stays ∙ (same ∙ sym (o .window)); parts = i;
+      flags = subst₂ (λ (u c : Bool). Flags (r .window .stores) (r .writing) (r .reading) u c) (sym (o .touched)) (sym (o .closed)) f
+    }
+
+pub kept-held : (m : List ℕ) (s : Service) (t : Story) → Held m s t → Held m (afterKept s) (keptStory t)
+kept-held m s t h =
+    let b = closedBy (s .writing) in let c = closedBy (s .reading) in
+    let one : Parts m (writingDoneIf b s) (when b writingCompleted t) = finish-writing m b s t (λ z. z) (h .parts) in
+    let two : Parts m (completed s b c) (when c readingCompleted (when b writingCompleted t)) = finish-reading m c (writingDoneIf b s) (when b writingCompleted t) (reading-waits s b) one in
+    let three : Parts m (afterKept s) (when c readingCompleted (when b writingCompleted t)) = frame-left m (completed s b c) _ two (writing-free s b c refl) (reading-free s b c refl) in
+    let four : Parts m (afterKept s) (keptIn (s .window .stores) t) = kept-told m (afterKept s) t (s .window .stores) (s .writing) (s .reading) (h .flags) (frame-over m (afterKept s) _ three) in
+    let all : Held m (afterKept s) (keptIn (s .window .stores) t) =
+          over-held m s (afterKept s) t (keptIn (s .window .stores) t) (h .same) (window-completed s b c) (over-kept (s .window .stores) t) four
+          (flags-over _ _ _ (left-touched (completed s b c .writing)) (left-closed (completed s b c .writing)) (left-touched (completed s b c .reading)) (left-closed (completed s b c .reading))) in
+    subst (λ (w : Window). Held m (afterKept s) (keptIn (w .stores) t)) (h .same) all
+
+pub dropped-held : (m : List ℕ) (s : Service) (t : Story) → Held m s t → Held m (afterDropped s) (droppedStory t)
+dropped-held m s t h =
+    let b = touchedBy (s .writing) in let c = touchedBy (s .reading) in
+    let one = writing-cancelled m s t (h .parts) b in
+    let two : Parts m (afterDropped s) (when c readingCancelled (when b writingCancelled t)) = reading-cancelled m _ (when b writingCancelled t) one c in
+    let three : Parts m (afterDropped s) (droppedIn (s .window .stores) t) = dropped-told m (afterDropped s) t (s .window .stores) (s .writing) (s .reading) (h .flags) (frame-over m (afterDropped s) _ two) in
+    let all : Held m (afterDropped s) (droppedIn (s .window .stores) t) =
+          over-held m s (afterDropped s) t (droppedIn (s .window .stores) t) (h .same) refl (over-dropped (s .window .stores) t) three
+          (flags-over _ _ _ (cancelled-touched (s .writing)) (cancelled-closed (s .writing)) (cancelled-touched (s .reading)) (cancelled-closed (s .reading))) in
+    subst (λ (w : Window). Held m (afterDropped s) (droppedIn (w .stores) t)) (h .same) all
+
+-- A CHANGE OF THE MEMORY outside the area
+pub memory-held : (m n : List ℕ) (s : Service) (t : Story) → Held m s t → length n ≡ length m → Agree (s .window) m n → Held n s t
+memory-held m n s t h long agree = record { same = h .same; parts = elsewhere-held m n s t (h .parts) long agree; flags = h .flags }
+
+pub write-elsewhere : (m : List ℕ) (s : Service) (t : Story) → Held m s t → (p v : ℕ) → inArea (s .window) p ≡ false → Held (set m p v) s t
+write-elsewhere m s t h p v e =
+    memory-held m (set m p v) s t h (length-set m p v) (λ q lo hi.
+      getD-set-other m p q v 0 (λ z.
+        ⊎-elim (λ x. let y = leb-false (s .window .start - 0x1000) p x in omega arith) (λ x. let y = ltb-false p (s .window .start - 0x1000 + areaSize (s .window)) x in omega arith)
+        (and-cases (leb (s .window .start - 0x1000) p) (ltb p (s .window .start - 0x1000 + areaSize (s .window))) e)))
+
+-- AN ACCESS changes its own area alone, and concerns a place that the memory has.
+pub store-inside : (m : List ℕ) (s : Service) (t : Story) → Held m s t → (k : ℕ) → k < s .window .length → (inArea (s .window) (storePlace s k) ≡ true) × (storePlace s k < length m)
+store-inside m s t h k kl =
+    (and-from _ _ (le-leb _ _ (place-from (s .window) (numberOf (s .roles .store)) k)) (lt-ltb _ _ (place-below (s .window) (s .roles .store) k kl)),
+     place-exists (s .window) (length m) (h .parts .fits .room) (s .roles .store) k kl)
+
+fetch-inside-by : (m : List ℕ) (s : Service) (t : Story) → Held m s t → (k : ℕ) → k < s .window .length → (o : Bool) →
+    (inArea (s .window) (placeIn (openedIf o s .window) (numberOf (openedIf o s .roles .fetch)) k) ≡ true) × (placeIn (openedIf o s .window) (numberOf (openedIf o s .roles .fetch)) k < length m)
+fetch-inside-by m s t h k kl true =
+    let b = openedIf true s .roles .fetch in
+    (and-from _ _ (le-leb _ _ (place-from (s .window) (numberOf b) k)) (lt-ltb _ _ (place-below (s .window) b k kl)), place-exists (s .window) (length m) (h .parts .fits .room) b k kl)
+fetch-inside-by m s t h k kl false =
+    let b = s .roles .fetch in
+    (and-from _ _ (le-leb _ _ (place-from (s .window) (numberOf b) k)) (lt-ltb _ _ (place-below (s .window) b k kl)), place-exists (s .window) (length m) (h .parts .fits .room) b k kl)
