@@ -23,7 +23,7 @@ use Rattle.channel.specs.declared.service.Transaction.the-variants.{Idle, Open,
 use Rattle.channel.specs.declared.service.Service.{Service}
 use Rattle.channel.specs.Facts.{isMaster, takenOf, asked}
 use Rattle.channel.specs.Windows.{areaSize, placeIn}
-use Rattle.channel.specs.Services.{takenBy, touchedBy, closedBy, closes, accessed, left, cancelled, numberOf, present, begun, factsOf, writingDoneIf, readingDoneIf, atOnce, otherSide, withStore, afterStore, openedIf, withFetch, afterFetch, storePlace, fetchPlace, frameLeft, afterKept, afterDropped}
+use Rattle.channel.specs.Services.{takenBy, touchedBy, closedBy, closes, accessed, left, cancelled, numberOf, present, begun, factsOf, writingDoneIf, readingDoneIf, atOnce, otherSide, withStore, afterStore, openedIf, opened, withFetch, afterFetch, storePlace, fetchPlace, frameLeft, afterKept, afterDropped}
 use Rattle.channel_law.specs.Story.{Accesses, Story, newStory, takenIn, none, closedWriting, closedReading, messageTold, factsIn, factsTold, addStore, addFetch, noted, writingCompleted, writingCancelled, readingCompleted, readingCancelled, when, closing, storedIn, fetchedIn, storedAt, fetchedAt, frameOver, keptIn, droppedIn, keptStory, droppedStory}
 use Rattle.channel_law.specs.Runs.{inArea}
 use Rattle.channel_law.specs.Law.{Fits}
@@ -220,10 +220,6 @@ fetch-by : (m : List ℕ) (s : Service) (t : Story) → Held m s t → (k : ℕ)
 fetch-by m s t h k kl true i = fetch-finish m s t h k (fetchedBy m s true k) (withFetch (openedIf true s) k) kl refl refl refl i
 fetch-by m s t h k kl false i = fetch-finish m s t h k (fetchedBy m s false k) (withFetch (openedIf false s) k) kl refl refl refl i
 
-window-opened : (s : Service) (o : Bool) (k b : ℕ) → placeIn (openedIf o s .window) b k ≡ placeIn (s .window) b k
-window-opened s true k b = refl
-window-opened s false k b = refl
-
 pub fetch-held : (m : List ℕ) (s : Service) (t : Story) → Held m s t → (side : Side) (k j : ℕ) → asked (factsOf s) side Read k ≡ Ok j → Held m (afterFetch s k) (fetchedAt k (getD m (fetchPlace s k) 0) t)
 fetch-held m s t h side k j e =
     let i = h .parts in
@@ -360,11 +356,11 @@ store-inside m s t h k kl =
     (and-from _ _ (le-leb _ _ (place-from (s .window) (numberOf (s .roles .store)) k)) (lt-ltb _ _ (place-below (s .window) (s .roles .store) k kl)),
      place-exists (s .window) (length m) (h .parts .fits .room) (s .roles .store) k kl)
 
-fetch-inside-by : (m : List ℕ) (s : Service) (t : Story) → Held m s t → (k : ℕ) → k < s .window .length → (o : Bool) →
-    (inArea (s .window) (placeIn (openedIf o s .window) (numberOf (openedIf o s .roles .fetch)) k) ≡ true) × (placeIn (openedIf o s .window) (numberOf (openedIf o s .roles .fetch)) k < length m)
-fetch-inside-by m s t h k kl true =
-    let b = openedIf true s .roles .fetch in
-    (and-from _ _ (le-leb _ _ (place-from (s .window) (numberOf b) k)) (lt-ltb _ _ (place-below (s .window) b k kl)), place-exists (s .window) (length m) (h .parts .fits .room) b k kl)
-fetch-inside-by m s t h k kl false =
-    let b = s .roles .fetch in
-    (and-from _ _ (le-leb _ _ (place-from (s .window) (numberOf b) k)) (lt-ltb _ _ (place-below (s .window) b k kl)), place-exists (s .window) (length m) (h .parts .fits .room) b k kl)
+pub fetch-inside : (m : List ℕ) (s : Service) (t : Story) → Held m s t → (k : ℕ) → k < s .window .length → (inArea (s .window) (fetchPlace s k) ≡ true) × (fetchPlace s k < length m)
+fetch-inside m s t h k kl =
+    let b = opened s .roles .fetch in
+    (and-from _ _ (le-leb _ _ (place-from (s .window) (numberOf b) k)) (lt-ltb _ _ (place-below (s .window) b k kl)),
+     place-exists (s .window) (length m) (h .parts .fits .room) b k kl)
+
+pub store-elsewhere : (m : List ℕ) (s : Service) (t : Story) → Held m s t → (k v p : ℕ) → k < s .window .length → inArea (s .window) p ≡ false → getD (set m (storePlace s k) v) p 0 ≡ getD m p 0
+store-elsewhere m s t h k v p kl out = getD-set-other m (storePlace s k) p v 0 (λ e. true≢false (sym (store-inside m s t h k kl .0) ∙ (ap (inArea (s .window)) (sym e) ∙ out)))

@@ -4,3 +4,4 @@ pub mod Held
 pub mod Steps
 pub mod Asked
 pub mod Keeps
+pub mod Whole
