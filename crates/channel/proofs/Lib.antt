@@ -1,1 +1,2 @@
 mod Overlaps
+mod Octets

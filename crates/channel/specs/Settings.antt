@@ -1,6 +1,8 @@
 -- The register octets of a channel, and the window that they ask for. Assumes nothing.
 use mathlib.Core.Bool.{Bool, true, false, cond}
-use Prim.Native.Nat.{ℕ, _-_, _/_, _%_}
+use mathlib.Core.Logic.{_≢_}
+use mathlib.Core.Path.{_≡_}
+use Prim.Native.Nat.{ℕ, _-_, _/_, _%_, _<_}
 use lib.Dec.{eqb, ltb}
 use Rattle.std.specs.declared.option.Option.{Option}
 use Rattle.std.specs.declared.option.Option.the-variants.{Some, None}
@@ -35,6 +37,18 @@ withOctetAt s i v =
     (cond (ltb i 4) (record { start = s .start; length = withOctet 2 (s .length) (i - 2) v; control = s .control; enable = s .enable })
     (cond (eqb i 4) (record { start = s .start; length = s .length; control = v % 128; enable = s .enable })
     (cond (eqb i 6) (record { start = s .start; length = s .length; control = s .control; enable = eqb (v % 2) 1 }) s)))
+
+-- THE LAW of the register octets: a written one reads back as the bits that are kept of it, octet 5 as the status, every other one as before.
+abbrev pub keptBits : (index octet : ℕ) → ℕ
+keptBits i v = cond (ltb i 4) v (cond (eqb i 4) (v % 128) (cond (eqb i 6) (v % 2) 0))
+
+pub record Reads-back (s : Setting) (status i v : ℕ) : Type 0 where
+  pub same : i ≢ 5 → octetOf (withOctetAt s i v) status i ≡ keptBits i v
+  pub live : octetOf s status 5 ≡ status
+  pub other : (j : ℕ) → j ≢ i → octetOf (withOctetAt s i v) status j ≡ octetOf s status j
+
+abbrev pub Settings-read-back : Type 0
+Settings-read-back = (s : Setting) (status i v : ℕ) → v < 256 → Reads-back s status i v
 
 abbrev pub refused : Setting → Setting
 refused s = record { start = s .start; length = s .length; control = s .control; enable = false }

@@ -19,3 +19,4 @@ pub use setting::Denial;
 pub use setting::Kind;
 pub use setting::Setting;
 pub use setting::Window;
+pub use setting::settings_read_back;

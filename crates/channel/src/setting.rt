@@ -1,6 +1,6 @@
 // The register octets of a channel, and the window that they ask for.
 ghost use mathlib.Core.Path.{_≡_};
-ghost use Rattle.channel.specs.Settings.{octetOf, withOctetAt, refused, windowOf, kindOf, storesOf, denialNumber};
+ghost use Rattle.channel.specs.Settings.{octetOf, withOctetAt, refused, windowOf, kindOf, storesOf, denialNumber, Settings-read-back};
 ghost use Rattle.channel.specs.Windows.{sizeOf, areaSize, inMemory, offsetIn};
 use access::Side;
 use access::field::octet16;
@@ -160,4 +160,11 @@ impl Window {
     {
         address.saturating_sub(u32::from(self.start))
     }
+}
+
+// A written register octet reads back as the bits that are kept of it, octet 5 as the status, and every other one as before.
+pub fn settings_read_back() -> u8
+    ensures { λ _. ⌜ Settings-read-back ⌝ }
+{
+    0
 }
