@@ -20,7 +20,8 @@ use Rattle.channel.specs.declared.service.Service.{Service}
 use Rattle.channel.specs.Windows.{placeIn}
 use Rattle.channel.specs.Services.{takenBy, touchedBy, closedBy, numberOf, present}
 use Rattle.channel_law.specs.Story.{Accesses, Reading, Story, takenIn, none}
-use Rattle.channel_law.specs.Law.{last, Shows, ShowsLatest, AllShow, Apart, Fits}
+use Rattle.channel_law.specs.Law.{last, Shows, ShowsLatest, AllShow, Fits}
+use Rattle.channel_law.specs.Sound.{Apart}
 use Rattle.channel_law.proofs.Messages.{nth}
 
 -- the octets that a transaction, open or closed, has taken
@@ -43,6 +44,7 @@ pub record WritingHeld (m : List ℕ) (w : Window) (b : Buffer) (n e : ℕ) (xs 
 pub record ReadingHeld (m : List ℕ) (w : Window) (b : Buffer) (n e : ℕ) (r : Reading) (ws : List Accesses) : Type 0 where
   pub within : n < w .length
   pub taken : takenIn (r .fetched) ≡ e
+  pub accessed′ : (j : ℕ) → j < e → (v : ℕ) × (last (r .fetched) j ≡ Some v)
   pub latest : ShowsLatest ws (r .before) (r .fetched)
   pub buffer : 0 < n → Holds m w b (nth ws (r .before))
 

@@ -50,7 +50,7 @@ begun-held m w fits =
         fits = fits;
         roles = record { store-ready = λ e. omega arith; store-fetch = λ e. omega arith; ready-fetch = λ e. omega arith };
         writing = record { within = omega arith; taken = refl; content = λ j h. absurd (omega arith) };
-        reading = record { within = omega arith; taken = refl; latest = tt; buffer = λ h. absurd (omega arith) };
+        reading = record { within = omega arith; taken = refl; accessed′ = λ j h. absurd (omega arith); latest = tt; buffer = λ h. absurd (omega arith) };
         shown = tt; some = λ e. absurd (false≢true e); over = tt; kind = begun-kind (w .kind)
       };
       flags = begun-flags (w .stores)

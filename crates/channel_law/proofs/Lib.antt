@@ -5,3 +5,5 @@ pub mod Steps
 pub mod Asked
 pub mod Keeps
 pub mod Whole
+pub mod Sound
+pub mod Others

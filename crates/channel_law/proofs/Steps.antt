@@ -25,7 +25,8 @@ use Rattle.channel.specs.declared.service.Service.{Service}
 use Rattle.channel.specs.Windows.{areaSize, inMemory, placeIn}
 use Rattle.channel.specs.Services.{takenBy, touchedBy, closedBy, closes, accessed, left, numberOf, present, rolesOpened, shownOpened, emptied, writingDone, readingDone, withStore, openedIf, withFetch, storePlace, frameLeft}
 use Rattle.channel_law.specs.Story.{Accesses, Reading, Story, takenIn, none, noReading, addStore, beforeThis, addFetch, writingCompleted, writingCancelled, readingCompleted, readingCancelled, frameOver, noted, when}
-use Rattle.channel_law.specs.Law.{last, Shows, ShowsLatest, AllShow, Apart, Fits}
+use Rattle.channel_law.specs.Law.{last, Shows, ShowsLatest, AllShow, Fits}
+use Rattle.channel_law.specs.Sound.{Apart}
 use Rattle.channel_law.proofs.Places.{place-from, place-below, place-exists, apart}
 use Rattle.channel_law.proofs.Messages.{last-same, last-other, taken-none, goes-on, nth, none-push, latest-push, nth-push, latest-some, latest-shows, latest-more, all-more}
 use Rattle.channel_law.proofs.Held.{extent, Holds, WritingHeld, ReadingHeld, ShownHeld, MailboxHeld, KindHeld, Parts}
@@ -120,7 +121,7 @@ module _ (m : List ℕ) (s : Service) (t : Story) (i : Parts m s t) (k v : ℕ) 
     roles = i .roles;
     writing = writing′ (s .window .stores) (closes (s .window) k) refl;
     reading = record {
-      within = i .reading .within; taken = i .reading .taken; latest = i .reading .latest;
+      within = i .reading .within; taken = i .reading .taken; accessed′ = i .reading .accessed′; latest = i .reading .latest;
       buffer = λ h. stays (s .roles .fetch) _ (i .roles .store-fetch) (λ q. true≢false (sym (is-busy (s .window .kind) _ _ _ _ _ _ (i .kind) q (taken-extent (s .window .length) (s .reading) h)) ∙ free q)) (i .reading .buffer h)
     };
     shown = shown′ (s .shown) refl (i .shown);
@@ -162,7 +163,7 @@ module _ (m : List ℕ) (s : Service) (t : Story) (i : Parts m s t) (closed : cl
         fits = i .fits;
         roles = record { store-ready = λ z. i .roles .store-ready (sym z); store-fetch = i .roles .ready-fetch; ready-fetch = i .roles .store-fetch };
         writing = record { within = omega arith; taken = refl; content = λ j h. absurd (omega arith) };
-        reading = record { within = i .reading .within; taken = i .reading .taken; latest = latest-more (t .written) (t .writing) (t .reading .before) (t .reading .fetched) (i .reading .latest); buffer = buffer′ };
+        reading = record { within = i .reading .within; taken = i .reading .taken; accessed′ = i .reading .accessed′; latest = latest-more (t .written) (t .writing) (t .reading .before) (t .reading .fetched) (i .reading .latest); buffer = buffer′ };
         shown = subst (Holds m (s .window) (s .roles .store)) (sym (latest-push (t .written) (t .writing))) (λ j h. i .writing .content j (omega arith));
         some = λ _. omega arith;
         over = all-more (t .written) (t .writing) (t .over) (i .over);
@@ -230,7 +231,7 @@ module _ (m : List ℕ) (s : Service) (t : Story) (i : Parts m s t) (more : clos
         fits = i .fits; roles = roles′ (s .shown);
         writing = subst (λ (b : Buffer). WritingHeld m (s .window) b (takenBy (s .writing)) (writingExtent s) (t .writing)) (store-same (s .shown)) (i .writing);
         reading = record {
-          within = i .reading .within; taken = i .reading .taken;
+          within = i .reading .within; taken = i .reading .taken; accessed′ = i .reading .accessed′;
           latest = subst (λ (xs : Accesses). ShowsLatest (t .written) number xs) (sym (none-open z)) tt;
           buffer = λ h. absurd (omega arith)
         };
@@ -292,14 +293,22 @@ module _ (m : List ℕ) (s : Service) (t : Story) (i : Parts m s t) (k : ℕ) (t
   latest′ : ShowsLatest (t .written) (t .reading .before) ((k, octet) ∷ t .reading .fetched)
   latest′ = let x = i .reading .within in (some, by-now, (found k (omega arith), latest-shows (t .written) (t .reading .before) (t .reading .fetched) (i .reading .latest)))
 
+  accessed″ : (j : ℕ) → j < max (takenBy (s .reading)) (k + 1) → (v : ℕ) × (last ((k, octet) ∷ t .reading .fetched) j ≡ Some v)
+  accessed″ j h =
+      let e = extent-open (s .window .length) (s .reading) more in
+      ⊎-elim
+      (λ (z : k ≡ j). (octet, subst (λ (n : ℕ). last ((k, octet) ∷ t .reading .fetched) n ≡ Some octet) z (last-same k octet (t .reading .fetched))))
+      (λ ne. let g = i .reading .accessed′ j (omega arith) in (g .0, last-other k octet j (t .reading .fetched) ne ∙ g .1))
+      (cases-eq k j)
+
   reading′ : (side : Side) (c : Bool) → closes (s .window) k ≡ c →
       ReadingHeld m (s .window) (s .roles .fetch) (takenBy (accessed side (s .reading) k c)) (extent (s .window .length) (accessed side (s .reading) k c)) (record { before = t .reading .before; fetched = (k, octet) ∷ t .reading .fetched }) (t .written)
   reading′ side false e =
       let ne = leb-false (s .window .length) (k + 1) e in let x = i .reading .within in let y = extent-open (s .window .length) (s .reading) more in let z = i .reading .taken in
-      record { within = omega arith; taken = omega arith; latest = latest′; buffer = λ _. found }
+      record { within = omega arith; taken = omega arith; accessed′ = accessed″; latest = latest′; buffer = λ _. found }
   reading′ side true e =
       let is = leb-true (s .window .length) (k + 1) e in let x = i .reading .within in let y = extent-open (s .window .length) (s .reading) more in let z = i .reading .taken in
-      record { within = omega arith; taken = omega arith; latest = latest′; buffer = λ h. absurd (omega arith) }
+      record { within = omega arith; taken = omega arith; accessed′ = λ j h. accessed″ j (omega arith); latest = latest′; buffer = λ h. absurd (omega arith) }
 
   kind⁗ : (q : Kind) (e d d′ : ℕ) (p : Bool) (rs : List Accesses) → (q ≡ Mailbox → (p ≡ true) × (t .reading .before ≡ length (t .written))) → KindHeld q e d p (t .written) (t .reading .before) rs → KindHeld q e d′ p (t .written) (t .reading .before) rs
   kind⁗ Buffered e d d′ p rs g h = h
@@ -364,7 +373,7 @@ module _ (m : List ℕ) (s : Service) (t : Story) (i : Parts m s t) (closed : cl
       let two = i .fits .long in let f = shut in
       record {
         fits = i .fits; roles = i .roles; writing = i .writing;
-        reading = record { within = omega arith; taken = refl; latest = tt; buffer = λ h. absurd (omega arith) };
+        reading = record { within = omega arith; taken = refl; accessed′ = λ j h. absurd (omega arith); latest = tt; buffer = λ h. absurd (omega arith) };
         shown = shown‴ (s .window .kind); some = some′ (s .window .kind); over = (i .reading .latest, i .over);
         kind = kind⁵ (s .window .kind) _ _ (omega arith) (i .kind)
       }
@@ -400,7 +409,7 @@ module _ (m : List ℕ) (s : Service) (t : Story) (i : Parts m s t) where
       let two = i .fits .long in
       record {
         fits = i .fits; roles = i .roles; writing = i .writing;
-        reading = record { within = omega arith; taken = refl; latest = tt; buffer = λ h. absurd (omega arith) };
+        reading = record { within = omega arith; taken = refl; accessed′ = λ j h. absurd (omega arith); latest = tt; buffer = λ h. absurd (omega arith) };
         shown = i .shown; some = i .some; over = (i .reading .latest, i .over); kind = kind⁶ (s .window .kind) _ _ _ _ _ _ _ _ refl (i .kind)
       }
   reading-cancelled false = record { fits = i .fits; roles = i .roles; writing = i .writing; reading = i .reading; shown = i .shown; some = i .some; over = i .over; kind = i .kind }
@@ -463,6 +472,6 @@ module _ (m n : List ℕ) (s : Service) (t : Story) (i : Parts m s t) (long : le
         fits = record { long = i .fits .long; room = subst (λ (z : ℕ). inMemory z (s .window) ≡ true) (sym long) (i .fits .room) };
         roles = i .roles;
         writing = record { within = i .writing .within; taken = i .writing .taken; content = λ j h. i .writing .content j h ∙ ap Some (there (s .roles .store) j (omega arith)) };
-        reading = record { within = i .reading .within; taken = i .reading .taken; latest = i .reading .latest; buffer = λ h. holds (s .roles .fetch) _ (i .reading .buffer h) };
+        reading = record { within = i .reading .within; taken = i .reading .taken; accessed′ = i .reading .accessed′; latest = i .reading .latest; buffer = λ h. holds (s .roles .fetch) _ (i .reading .buffer h) };
         shown = shown⁴ (s .shown) (i .shown); some = i .some; over = i .over; kind = i .kind
       }

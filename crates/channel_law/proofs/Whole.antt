@@ -24,12 +24,13 @@ use Rattle.channel.specs.Facts.{isMaster, sameSide, rightWay, takenOf, opens, t
 use Rattle.channel.specs.Services.{takenBy, closedBy, present, otherSide, factsOf, fetchPlace}
 use Rattle.channel_law.specs.Story.{Accesses, Story, newStory, takenIn, none, closedWriting, closedReading, messageTold, factsTold}
 use Rattle.channel_law.specs.Runs.{Call, write, read, kept, dropped, elsewhere, Answer, done, got, refused, State, first, inArea, afterWrite, afterRead, step, answerTo, answer, run, history, toldWrite, toldRead, note, tell}
-use Rattle.channel_law.specs.Law.{Shows, ShowsLatest, AllShow, InOrder, WholeOf, Whole, bare, due, InTurn, failed, reason, RefusedRightly, InWords, Answered, EachAnswered, Sound, Fits, Promise, Messages-are-whole}
+use Rattle.channel_law.specs.Law.{Shows, ShowsLatest, AllShow, InOrder, WholeOf, Whole, bare, due, InTurn, failed, reason, RefusedRightly, InWords, Answered, EachAnswered, Taken, Alone, Fits, Promise, Messages-are-whole}
+use Rattle.channel_law.specs.Sound.{Sound}
 use Rattle.channel_law.proofs.Messages.{latest-some}
 use Rattle.channel_law.proofs.Held.{MailboxHeld, KindHeld, Held}
 use Rattle.channel_law.proofs.Steps.{writingExtent, readingExtent}
-use Rattle.channel_law.proofs.Asked.{side-writes, side-reads}
-use Rattle.channel_law.proofs.Keeps.{begun-held, facts-agree, store-held, fetch-held, kept-held, dropped-held, write-elsewhere}
+use Rattle.channel_law.proofs.Asked.{allowed, side-writes, side-reads}
+use Rattle.channel_law.proofs.Keeps.{begun-held, facts-agree, store-held, fetch-held, kept-held, dropped-held, write-elsewhere, store-elsewhere}
 
 -- EVERY CALL keeps the invariant.
 write-kept : (S : State) (t : Story) → Held (S .octets) (S .service) t → (side : Side) (k v : ℕ) (r : Result ℕ Refusal) → asked (factsOf (S .service)) side Write k ≡ r →
@@ -72,6 +73,19 @@ whole m s t h =
 
 pub sound : (m : List ℕ) (s : Service) (t : Story) → Held m s t → Sound s
 sound m s t h = record { roles = h .parts .roles; writing = h .parts .writing .within; reading = h .parts .reading .within }
+
+pub taken-written : (m : List ℕ) (s : Service) (t : Story) → Held m s t → Taken (t .writing)
+taken-written m s t h j l = let e = h .parts .writing .taken in (_, h .parts .writing .content j (omega arith))
+
+pub taken-read : (m : List ℕ) (s : Service) (t : Story) → Held m s t → Taken (t .reading .fetched)
+taken-read m s t h j l = let e = h .parts .reading .taken in h .parts .reading .accessed′ j (omega arith)
+
+alone-if : (S : State) (t : Story) → HeldIn S t → (side : Side) (k v p : ℕ) (r : Result ℕ Refusal) → asked (factsOf (S .service)) side Write k ≡ r → inArea (S .service .window) p ≡ false → getD (afterWrite S k v r .octets) p 0 ≡ getD (S .octets) p 0
+alone-if S t h side k v p (Ok j) e out = store-elsewhere (S .octets) (S .service) t h k v p (allowed (factsOf (S .service)) side Write k j e .in-window) out
+alone-if S t h side k v p (Err r) e out = refl
+
+pub alone : (S : State) (t : Story) → HeldIn S t → Alone S
+alone S t h side k v p out = alone-if S t h side k v p (asked (factsOf (S .service)) side Write k) refl out
 
 -- ANSWERS are as the questions say.
 bare-done : (r : Result ℕ Refusal) → bare (answerTo done r) ≡ answerTo done r
@@ -172,4 +186,4 @@ pub law : Messages-are-whole
 law w m fits cs =
     let begin = begun-held m w fits in
     let end = always (first w m) (newStory w) begin cs in
-    record { whole = whole _ _ _ end; answered = each (first w m) (newStory w) begin cs; sound = sound _ _ _ end }
+    record { whole = whole _ _ _ end; answered = each (first w m) (newStory w) begin cs; writing-taken = taken-written _ _ _ end; reading-taken = taken-read _ _ _ end; alone = alone _ _ end; sound = sound _ _ _ end }

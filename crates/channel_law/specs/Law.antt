@@ -1,6 +1,6 @@
 -- THE LAW OF WHOLE MESSAGES of one channel, over every run of one service. Assumes nothing.
 use mathlib.Core.Path.{_≡_}
-use mathlib.Core.Logic.{_⊎_, _≢_}
+use mathlib.Core.Logic.{_⊎_}
 use mathlib.Core.Bool.{Bool, true, false, cond, _||_}
 use mathlib.Core.List.{List, [], _∷_}
 use Prim.Native.Nat.{ℕ, suc, _-_, _<_, _≤_}
@@ -15,13 +15,11 @@ use Rattle.channel.specs.declared.setting.Kind.{Kind}
 use Rattle.channel.specs.declared.setting.Kind.the-variants.{Buffered, Mailbox}
 use Rattle.channel.specs.declared.setting.Window.{Window}
 use Rattle.channel.specs.declared.facts.Facts.{Facts}
-use Rattle.channel.specs.declared.service.Roles.{Roles}
-use Rattle.channel.specs.declared.service.Service.{Service}
 use Rattle.channel.specs.Facts.{rightWay, takenOf, asked}
 use Rattle.channel.specs.Windows.{inMemory}
-use Rattle.channel.specs.Services.{numberOf, takenBy}
-use Rattle.channel_law.specs.Story.{Accesses, Reading, Story, newStory, none, closedWriting, closedReading, factsTold}
-use Rattle.channel_law.specs.Runs.{Call, write, read, kept, dropped, elsewhere, Answer, done, got, refused, State, first, answerTo, run, history, note, tell}
+use Rattle.channel_law.specs.Sound.{Sound}
+use Rattle.channel_law.specs.Story.{Accesses, Reading, Story, newStory, takenIn, none, closedWriting, closedReading, factsTold}
+use Rattle.channel_law.specs.Runs.{Call, write, read, kept, dropped, elsewhere, Answer, done, got, refused, State, first, inArea, step, answerTo, run, history, note, tell}
 
 -- MESSAGES. The octet last stored at an offset; a reading shows a message if each octet fetched in it is the message's there.
 abbrev pub last : Accesses → ℕ → Option ℕ
@@ -102,16 +100,13 @@ abbrev pub EachAnswered : Story → List (Call × Answer) → Type 0
 EachAnswered t [] = Unit {0}
 EachAnswered t (e ∷ es) = Answered t (e .0) (e .1) × EachAnswered (note t (e .0) (e .1)) es
 
--- THE SERVICE ITSELF is sound: its roles are three different buffers, and an open transaction has taken at most L − 1 octets.
-pub record Apart (r : Roles) : Type 0 where
-  pub store-ready : numberOf (r .store) ≢ numberOf (r .ready)
-  pub store-fetch : numberOf (r .store) ≢ numberOf (r .fetch)
-  pub ready-fetch : numberOf (r .ready) ≢ numberOf (r .fetch)
+-- TURNS. Each offset below the number taken was accessed.
+abbrev pub Taken : Accesses → Type 0
+Taken xs = (j : ℕ) → j < takenIn xs → (v : ℕ) × (last xs j ≡ Some v)
 
-pub record Sound (s : Service) : Type 0 where
-  pub roles : Apart (s .roles)
-  pub writing : takenBy (s .writing) < s .window .length
-  pub reading : takenBy (s .reading) < s .window .length
+-- A write to the area changes no octet outside it.
+abbrev pub Alone : State → Type 0
+Alone S = (side : Side) (k v p : ℕ) → inArea (S .service .window) p ≡ false → getD (step S (write side k v) .octets) p 0 ≡ getD (S .octets) p 0
 
 -- an enabling is accepted only of such a window
 pub record Fits (size : ℕ) (w : Window) : Type 0 where
@@ -121,6 +116,9 @@ pub record Fits (size : ℕ) (w : Window) : Type 0 where
 pub record Promise (w : Window) (m : List ℕ) (cs : List Call) : Type 0 where
   pub whole : Whole (tell (newStory w) (history (first w m) cs))
   pub answered : EachAnswered (newStory w) (history (first w m) cs)
+  pub writing-taken : Taken (tell (newStory w) (history (first w m) cs) .writing)
+  pub reading-taken : Taken (tell (newStory w) (history (first w m) cs) .reading .fetched)
+  pub alone : Alone (run (first w m) cs)
   pub sound : Sound (run (first w m) cs .service)
 
 -- THE LAW: for every window that fits, whatever octets the memory starts with and whatever calls are made.
