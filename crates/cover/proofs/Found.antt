@@ -10,19 +10,13 @@ use Rattle.std.specs.Options.{Cases, mapped}
 use Rattle.std.specs.Places.{At, Every}
 use Rattle.std.specs.declared.option.Option.{Option}
 use Rattle.std.specs.declared.option.Option.the-variants.{Some, None}
-use Rattle.std.proofs.shelf.Tests.{and-parts, and-from, and-left, and-right, le-leb, lt-leb, leb-true, false≢true, cond-both}
+use Rattle.std.proofs.shelf.Tests.{and-parts, and-from, le-leb, leb-true, false≢true, cond-both}
 use Rattle.std.proofs.shelf.Lists.{at-drop-more, at-drop-all}
 use Rattle.cover.specs.Lowest.{covers, lowest-from, Covers, Lowest}
 
 module _ {E : Type 0} (low high : E → ℕ) (place : ℕ) where
   pub covers-true : (e : E) → low e ≤ place → place ≤ high e → covers low high place e ≡ true
   covers-true e l h = and-from _ _ (le-leb (low e) place l) (le-leb place (high e) h)
-
-  pub below-false : (e : E) → place < low e → covers low high place e ≡ false
-  below-false e l = and-left _ _ (lt-leb (low e) place l)
-
-  pub above-false : (e : E) → high e < place → covers low high place e ≡ false
-  above-false e h = and-right _ _ (lt-leb place (high e) h)
 
   -- one entry more, which does not cover
   pub passed : (es : List E) (i : ℕ) (e : E) → i < length es → e ≡ getD es i e → covers low high place e ≡ false → lowest-from low high place i (drop i es) ≡ lowest-from low high place (i + 1) (drop (i + 1) es)
