@@ -19,7 +19,7 @@ pub struct Facts {
 }
 
 // Why an access is refused.
-#[derive(Clone, Copy)]
+#[derive(Clone, Copy, PartialEq, Eq, Debug)]
 pub enum Refusal {
     OutsideWindow,
     WrongSide,

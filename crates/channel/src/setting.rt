@@ -3,18 +3,21 @@ ghost use mathlib.Core.Path.{_≡_};
 ghost use Rattle.channel.specs.Settings.{octetOf, withOctetAt, refused, windowOf, kindOf, storesOf, denialNumber, Settings-read-back};
 ghost use Rattle.channel.specs.Windows.{sizeOf, areaSize, inMemory, offsetIn};
 use access::Side;
+use access::SideDebug;
+use access::SideEq;
+use access::SidePartialEq;
 use access::field::octet16;
 use access::field::with_octet16;
 
 // A buffered channel always has a latest message to read, once one is written; a mailbox hands each message over once.
-#[derive(Clone, Copy)]
+#[derive(Clone, Copy, PartialEq, Eq, Debug)]
 pub enum Kind {
     Buffered,
     Mailbox,
 }
 
 // Octets 0 and 1 are the start, 2 and 3 the length, 4 is control, 5 the status that the service shows, 6 holds enable in bit 0, and 7 is 0.
-#[derive(Clone, Copy)]
+#[derive(Clone, Copy, PartialEq, Eq, Debug)]
 pub struct Setting {
     pub start: u16,
     pub length: u16,
@@ -23,7 +26,7 @@ pub struct Setting {
 }
 
 // What an accepted enabling fixes: the window's first address and its length in octets, the kind, and the side that stores; the other one fetches.
-#[derive(Clone, Copy)]
+#[derive(Clone, Copy, PartialEq, Eq, Debug)]
 pub struct Window {
     pub start: u16,
     pub length: u16,
@@ -33,7 +36,7 @@ pub struct Window {
 
 // Why an enabling is refused: a control field that is not listed, a length below 2, an area that the memory does not have, an area that touches one
 // in service.
-#[derive(Clone, Copy)]
+#[derive(Clone, Copy, PartialEq, Eq, Debug)]
 pub enum Denial {
     Control,
     Length,
