@@ -60,5 +60,5 @@ settings-read-back s status i v h =
     record {
       same = same′ s status i v h (ltb i 2) (ltb i 4) (eqb i 4) (eqb i 6) refl refl refl refl;
       live = refl;
-      other = λ j ne. other′ s status i v h j ne (ltb i 2) (ltb i 4) (eqb i 4) (eqb i 6) refl refl refl refl
+      other = λ j ne. other′ s status i v h j ne (ltb i 2) (ltb i 4) (eqb i 4) (eqb i 6) refl refl refl refl;
     }

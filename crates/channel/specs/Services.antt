@@ -86,9 +86,13 @@ emptied Buffered x = x
 abbrev pub begun : Window → Service
 begun w =
     record {
-      window = w; writing = Idle; reading = Idle;
+      window = w;
+      writing = Idle;
+      reading = Idle;
       roles = record { store = First; ready = Second; fetch = Third };
-      shown = Nothing; «write_event» = false; «read_event» = false;
+      shown = Nothing;
+      «write_event» = false;
+      «read_event» = false;
     }
 
 abbrev pub factsOf : Service → Facts
@@ -105,16 +109,25 @@ factsOf s =
 abbrev pub writingDone : Service → Service
 writingDone s =
     record {
-      window = s .window; writing = Idle; reading = s .reading;
+      window = s .window;
+      writing = Idle;
+      reading = s .reading;
       roles = record { store = s .roles .ready; ready = s .roles .store; fetch = s .roles .fetch };
-      shown = Ready; «write_event» = true; «read_event» = s .«read_event»;
+      shown = Ready;
+      «write_event» = true;
+      «read_event» = s .«read_event»;
     }
 
 abbrev pub readingDone : Service → Service
 readingDone s =
     record {
-      window = s .window; writing = s .writing; reading = Idle; roles = s .roles;
-      shown = emptied (s .window .kind) (s .shown); «write_event» = s .«write_event»; «read_event» = true;
+      window = s .window;
+      writing = s .writing;
+      reading = Idle;
+      roles = s .roles;
+      shown = emptied (s .window .kind) (s .shown);
+      «write_event» = s .«write_event»;
+      «read_event» = true;
     }
 
 abbrev pub writingDoneIf : Bool → Service → Service
@@ -138,8 +151,13 @@ otherSide Local = Master
 abbrev pub withStore : Service → ℕ → Service
 withStore s k =
     record {
-      window = s .window; writing = accessed (s .window .stores) (s .writing) k (closes (s .window) k); reading = s .reading; roles = s .roles; shown = s .shown;
-      «write_event» = s .«write_event»; «read_event» = s .«read_event» && not (eqb (takenBy (s .writing)) 0);
+      window = s .window;
+      writing = accessed (s .window .stores) (s .writing) k (closes (s .window) k);
+      reading = s .reading;
+      roles = s .roles;
+      shown = s .shown;
+      «write_event» = s .«write_event»;
+      «read_event» = s .«read_event» && not (eqb (takenBy (s .writing)) 0);
     }
 
 abbrev pub afterStore : Service → ℕ → Service
@@ -149,8 +167,13 @@ afterStore s k = writingDoneIf (atOnce (s .window .stores) (closes (s .window) k
 abbrev pub openedIf : (opening : Bool) → Service → Service
 openedIf true s =
     record {
-      window = s .window; writing = s .writing; reading = s .reading; roles = rolesOpened (s .shown) (s .roles); shown = shownOpened (s .shown);
-      «write_event» = false; «read_event» = s .«read_event»;
+      window = s .window;
+      writing = s .writing;
+      reading = s .reading;
+      roles = rolesOpened (s .shown) (s .roles);
+      shown = shownOpened (s .shown);
+      «write_event» = false;
+      «read_event» = s .«read_event»;
     }
 openedIf false s = s
 
@@ -160,8 +183,13 @@ opened s = openedIf (eqb (takenBy (s .reading)) 0) s
 abbrev pub withFetch : Service → ℕ → Service
 withFetch s k =
     record {
-      window = s .window; writing = s .writing; reading = accessed (otherSide (s .window .stores)) (s .reading) k (closes (s .window) k); roles = s .roles; shown = s .shown;
-      «write_event» = s .«write_event»; «read_event» = s .«read_event»;
+      window = s .window;
+      writing = s .writing;
+      reading = accessed (otherSide (s .window .stores)) (s .reading) k (closes (s .window) k);
+      roles = s .roles;
+      shown = s .shown;
+      «write_event» = s .«write_event»;
+      «read_event» = s .«read_event»;
     }
 
 abbrev pub afterFetch : Service → ℕ → Service
@@ -178,8 +206,13 @@ fetchPlace s k = placeIn (s .window) (numberOf (opened s .roles .fetch)) k
 abbrev pub frameLeft : Service → Service
 frameLeft s =
     record {
-      window = s .window; writing = left (s .writing); reading = left (s .reading); roles = s .roles; shown = s .shown;
-      «write_event» = s .«write_event»; «read_event» = s .«read_event»;
+      window = s .window;
+      writing = left (s .writing);
+      reading = left (s .reading);
+      roles = s .roles;
+      shown = s .shown;
+      «write_event» = s .«write_event»;
+      «read_event» = s .«read_event»;
     }
 
 abbrev pub afterKept : Service → Service
@@ -188,8 +221,13 @@ afterKept s = frameLeft (readingDoneIf (closedBy (s .reading)) (writingDoneIf (c
 abbrev pub afterDropped : Service → Service
 afterDropped s =
     record {
-      window = s .window; writing = cancelled (s .writing); reading = cancelled (s .reading); roles = s .roles; shown = s .shown;
-      «write_event» = s .«write_event»; «read_event» = s .«read_event»;
+      window = s .window;
+      writing = cancelled (s .writing);
+      reading = cancelled (s .reading);
+      roles = s .roles;
+      shown = s .shown;
+      «write_event» = s .«write_event»;
+      «read_event» = s .«read_event»;
     }
 
 -- THE STATUS OCTET: bits 0 and 1; bit 3, the mailbox is full; bits 5–4 number the buffer that the next reading shows, 3 if there is none yet.

@@ -50,9 +50,6 @@ pub record Reads-back (s : Setting) (status i v : ℕ) : Type 0 where
 abbrev pub Settings-read-back : Type 0
 Settings-read-back = (s : Setting) (status i v : ℕ) → v < 256 → Reads-back s status i v
 
-abbrev pub refused : Setting → Setting
-refused s = record { start = s .start; length = s .length; control = s .control; enable = false }
-
 -- control bits 1–0: 0 buffered, 2 mailbox
 abbrev pub kindOf : (control : ℕ) → Option Kind
 kindOf c = cond (eqb (c % 4) 0) (Some Buffered) (cond (eqb (c % 4) 2) (Some Mailbox) None)

@@ -1,5 +1,6 @@
 // The questions before an access to a channel's area, in their order: the first no decides.
 ghost use mathlib.Core.Path.{_≡_};
+ghost use Rattle.channel.specs.Windows.{offsetIn};
 ghost use Rattle.channel.specs.Facts.{isMaster, sameSide, rightWay, takenOf, opens, turn, asked, refusalNumber};
 use crate::setting::Kind;
 use crate::setting::Window;
@@ -75,10 +76,11 @@ fn right_way(window: Window, side: Side, direction: Direction) -> bool
 }
 
 impl Facts {
-    // May the access be done? Then the answer is its offset, which lies in the window.
-    pub fn ask(self, side: Side, direction: Direction, offset: u32) -> Result<u16, Refusal>
-        ensures { λ r. ⌜ r ≡ asked self side direction offset ⌝ }
+    // May an access at this address of the area be done? Then the answer is its offset in the window.
+    pub fn ask(self, side: Side, direction: Direction, address: u32) -> Result<u16, Refusal>
+        ensures { λ r. ⌜ r ≡ asked self side direction (offsetIn (self .window) address) ⌝ }
     {
+        let offset = self.window.offset(address);
         if offset >= u32::from(self.window.length) {
             Err(Refusal::OutsideWindow)
         } else if !right_way(self.window, side, direction) {
@@ -117,10 +119,22 @@ impl Facts {
         ensures { λ r. ⌜ r ≡ opens (self .window .kind) direction (self .message) offset ⌝ }
     {
         match (self.window.kind, direction) {
-            (Kind::Mailbox, Direction::Write) => if self.message { Err(Refusal::MailboxFull) } else { Ok(offset) },
-            (Kind::Mailbox, Direction::Read) => if self.message { Ok(offset) } else { Err(Refusal::MailboxEmpty) },
+            (Kind::Mailbox, Direction::Write) => if self.message {
+                Err(Refusal::MailboxFull)
+            } else {
+                Ok(offset)
+            },
+            (Kind::Mailbox, Direction::Read) => if self.message {
+                Ok(offset)
+            } else {
+                Err(Refusal::MailboxEmpty)
+            },
             (Kind::Buffered, Direction::Write) => Ok(offset),
-            (Kind::Buffered, Direction::Read) => if self.message { Ok(offset) } else { Err(Refusal::NothingWritten) },
+            (Kind::Buffered, Direction::Read) => if self.message {
+                Ok(offset)
+            } else {
+                Err(Refusal::NothingWritten)
+            },
         }
     }
 }

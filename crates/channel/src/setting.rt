@@ -1,6 +1,6 @@
 // The register octets of a channel, and the window that they ask for.
 ghost use mathlib.Core.Path.{_≡_};
-ghost use Rattle.channel.specs.Settings.{octetOf, withOctetAt, refused, windowOf, kindOf, storesOf, denialNumber, Settings-read-back};
+ghost use Rattle.channel.specs.Settings.{octetOf, withOctetAt, windowOf, kindOf, storesOf, denialNumber, Settings-read-back};
 ghost use Rattle.channel.specs.Windows.{sizeOf, areaSize, inMemory, offsetIn};
 use access::Side;
 use access::SideDebug;
@@ -82,32 +82,42 @@ impl Setting {
         ensures { λ r. ⌜ r ≡ withOctetAt self index octet ⌝ }
     {
         if index < 2 {
-            Setting { start: with_octet16(self.start, index, octet), ..self }
+            Setting {
+                start: with_octet16(self.start, index, octet),
+                ..self
+            }
         } else if index < 4 {
-            Setting { length: with_octet16(self.length, index - 2, octet), ..self }
+            Setting {
+                length: with_octet16(self.length, index - 2, octet),
+                ..self
+            }
         } else if index == 4 {
-            Setting { control: octet % 128, ..self }
+            Setting {
+                control: octet % 128,
+                ..self
+            }
         } else if index == 6 {
-            Setting { enable: octet % 2 == 1, ..self }
+            Setting {
+                enable: octet % 2 == 1,
+                ..self
+            }
         } else {
             self
         }
     }
 
-    // A refused enabling keeps enable 0.
-    pub fn refused(self) -> Setting
-        ensures { λ r. ⌜ r ≡ refused self ⌝ }
-    {
-        Setting { enable: false, ..self }
-    }
-
     // The window that the settings ask for, if both control fields are listed.
-    pub fn window(self) -> Option<Window>
+    pub(crate) fn window(self) -> Option<Window>
         ensures { λ r. ⌜ r ≡ windowOf self ⌝ }
     {
         let kind = kind_of(self.control)?;
         let stores = stores_of(self.control)?;
-        Some(Window { start: self.start, length: self.length, kind, stores })
+        Some(Window {
+            start: self.start,
+            length: self.length,
+            kind,
+            stores,
+        })
     }
 }
 
@@ -141,7 +151,7 @@ fn stores_of(control: u8) -> Option<Side>
 
 impl Window {
     // The octets of the area: one buffer for a mailbox, three for a buffered channel.
-    pub fn area_size(self) -> u32
+    pub(crate) fn area_size(self) -> u32
         ensures { λ r. ⌜ r ≡ areaSize self ⌝ }
     {
         match self.kind {
@@ -151,14 +161,14 @@ impl Window {
     }
 
     // Does the area lie in a memory of `size` octets, whose place 0 has address 0x1000?
-    pub fn in_memory(self, size: usize) -> bool
+    pub(crate) fn in_memory(self, size: usize) -> bool
         ensures { λ r. ⌜ r ≡ inMemory size self ⌝ }
     {
         self.start >= 0x1000 && (self.start - 0x1000) as usize + self.area_size() as usize <= size
     }
 
     // How far an address of the area stands from the window's start.
-    pub fn offset(self, address: u32) -> u32
+    pub(crate) fn offset(self, address: u32) -> u32
         ensures { λ r. ⌜ r ≡ offsetIn self address ⌝ }
     {
         address.saturating_sub(u32::from(self.start))

@@ -18,7 +18,7 @@ use access::Side;
 
 impl Transaction {
     // The octets taken, 0 if none is open.
-    pub fn taken(self) -> u16
+    fn taken(self) -> u16
         ensures { λ r. ⌜ r ≡ takenBy self ⌝ }
     {
         match self {
@@ -40,12 +40,15 @@ impl Transaction {
     }
 
     // Has the running frame closed it?
-    pub fn closed(self) -> bool
+    fn closed(self) -> bool
         ensures { λ r. ⌜ r ≡ closedBy self ⌝ }
     {
         match self {
             Transaction::Idle => false,
-            Transaction::Open { taken: _, accessed: _ } => false,
+            Transaction::Open {
+                taken: _,
+                accessed: _,
+            } => false,
             Transaction::Waiting => true,
         }
     }
@@ -57,7 +60,10 @@ impl Transaction {
         if window.closes(offset) {
             Transaction::Waiting
         } else {
-            Transaction::Open { taken: self.taken().max(offset + 1), accessed: is_master(side) }
+            Transaction::Open {
+                taken: self.taken().max(offset + 1),
+                accessed: is_master(side),
+            }
         }
     }
 
@@ -67,7 +73,10 @@ impl Transaction {
     {
         match self {
             Transaction::Idle => Transaction::Idle,
-            Transaction::Open { taken, accessed: _ } => Transaction::Open { taken, accessed: false },
+            Transaction::Open { taken, accessed: _ } => Transaction::Open {
+                taken,
+                accessed: false,
+            },
             Transaction::Waiting => Transaction::Idle,
         }
     }
@@ -76,12 +85,16 @@ impl Transaction {
     fn cancelled(self) -> Transaction
         ensures { λ r. ⌜ r ≡ cancelled self ⌝ }
     {
-        if self.touched() { Transaction::Idle } else { self }
+        if self.touched() {
+            Transaction::Idle
+        } else {
+            self
+        }
     }
 }
 
 impl Buffer {
-    pub fn number(self) -> u8
+    fn number(self) -> u8
         ensures { λ r. ⌜ r ≡ numberOf self ⌝ }
     {
         match self {
@@ -94,7 +107,7 @@ impl Buffer {
 
 impl Shown {
     // Is there a message to read?
-    pub fn present(self) -> bool
+    fn present(self) -> bool
         ensures { λ r. ⌜ r ≡ present self ⌝ }
     {
         match self {
@@ -120,7 +133,9 @@ impl Window {
         let first = u32::from(self.start).saturating_sub(0x1000);
         match self.kind {
             Kind::Mailbox => first + u32::from(offset),
-            Kind::Buffered => first + u32::from(buffer.number()) * u32::from(self.length) + u32::from(offset),
+            Kind::Buffered => first
+                + u32::from(buffer.number()) * u32::from(self.length)
+                + u32::from(offset),
         }
     }
 }
@@ -152,17 +167,15 @@ impl Service {
             window,
             writing: Transaction::Idle,
             reading: Transaction::Idle,
-            roles: Roles { store: Buffer::First, ready: Buffer::Second, fetch: Buffer::Third },
+            roles: Roles {
+                store: Buffer::First,
+                ready: Buffer::Second,
+                fetch: Buffer::Third,
+            },
             shown: Shown::Nothing,
             write_event: false,
             read_event: false,
         }
-    }
-
-    pub fn window(self) -> Window
-        ensures { λ r. ⌜ r ≡ self .window ⌝ }
-    {
-        self.window
     }
 
     // What the questions before an access need to know.
@@ -197,7 +210,11 @@ impl Service {
         ensures { λ r. ⌜ r ≡ afterStore self offset ⌝ }
     {
         let stored = self.with_store(offset);
-        if completes_at_once(self.window.stores, self.window, offset) { stored.writing_done() } else { stored }
+        if completes_at_once(self.window.stores, self.window, offset) {
+            stored.writing_done()
+        } else {
+            stored
+        }
     }
 
     // A fetch at this offset was done.
@@ -205,25 +222,35 @@ impl Service {
         ensures { λ r. ⌜ r ≡ afterFetch self offset ⌝ }
     {
         let fetched = self.opened().with_fetch(offset);
-        if completes_at_once(other_side(self.window.stores), self.window, offset) { fetched.reading_done() } else { fetched }
+        if completes_at_once(other_side(self.window.stores), self.window, offset) {
+            fetched.reading_done()
+        } else {
+            fetched
+        }
     }
 
     // The running frame's end is kept: what it closed completes.
     pub fn after_kept(self) -> Service
         ensures { λ r. ⌜ r ≡ afterKept self ⌝ }
     {
-        self.writing_kept().reading_kept(self.reading.closed()).frame_left()
+        self.writing_kept()
+            .reading_kept(self.reading.closed())
+            .frame_left()
     }
 
     // The running frame is dropped: every transaction that it accessed is cancelled, and nothing else is put back.
     pub fn after_dropped(self) -> Service
         ensures { λ r. ⌜ r ≡ afterDropped self ⌝ }
     {
-        Service { writing: self.writing.cancelled(), reading: self.reading.cancelled(), ..self }
+        Service {
+            writing: self.writing.cancelled(),
+            reading: self.reading.cancelled(),
+            ..self
+        }
     }
 
     // Bits 0 and 1 are the events; bit 3 tells a full mailbox; bits 5 and 4 number the buffer that the next reading shows, 3 if there is none yet.
-    pub fn status(self) -> u8
+    pub(crate) fn status(self) -> u8
         ensures { λ r. ⌜ r ≡ statusOf self ⌝ }
     {
         u8::from(self.write_event) + 2 * u8::from(self.read_event) + self.kind_bits()
@@ -264,20 +291,33 @@ impl Service {
         ensures { λ r. ⌜ r ≡ withFetch self offset ⌝ }
     {
         let window = self.window;
-        Service { reading: self.reading.accessed(other_side(window.stores), offset, window), ..self }
+        Service {
+            reading: self.reading
+                .accessed(other_side(window.stores), offset, window),
+            ..self
+        }
     }
 
     // The service once a reading stands open: one that opens clears the write event and chooses the buffer, one that goes on stays with it.
     fn opened(self) -> Service
         ensures { λ r. ⌜ r ≡ opened self ⌝ }
     {
-        if self.reading.taken() == 0 { self.opening() } else { self }
+        if self.reading.taken() == 0 {
+            self.opening()
+        } else {
+            self
+        }
     }
 
     fn opening(self) -> Service
         ensures { λ r. ⌜ r ≡ openedIf true self ⌝ }
     {
-        Service { roles: self.roles.opened(self.shown), shown: self.shown.opened(), write_event: false, ..self }
+        Service {
+            roles: self.roles.opened(self.shown),
+            shown: self.shown.opened(),
+            write_event: false,
+            ..self
+        }
     }
 
     // A completed writing exchanges store and ready, and the ready one is fresh.
@@ -286,7 +326,11 @@ impl Service {
     {
         Service {
             writing: Transaction::Idle,
-            roles: Roles { store: self.roles.ready, ready: self.roles.store, fetch: self.roles.fetch },
+            roles: Roles {
+                store: self.roles.ready,
+                ready: self.roles.store,
+                fetch: self.roles.fetch,
+            },
             shown: Shown::Ready,
             write_event: true,
             ..self
@@ -297,13 +341,22 @@ impl Service {
     fn reading_done(self) -> Service
         ensures { λ r. ⌜ r ≡ readingDone self ⌝ }
     {
-        Service { reading: Transaction::Idle, shown: self.shown.emptied(self.window.kind), read_event: true, ..self }
+        Service {
+            reading: Transaction::Idle,
+            shown: self.shown.emptied(self.window.kind),
+            read_event: true,
+            ..self
+        }
     }
 
     fn writing_kept(self) -> Service
         ensures { λ r. ⌜ r ≡ writingDoneIf (closedBy (self .writing)) self ⌝ }
     {
-        if self.writing.closed() { self.writing_done() } else { self }
+        if self.writing.closed() {
+            self.writing_done()
+        } else {
+            self
+        }
     }
 
     fn reading_kept(self, closed: bool) -> Service
@@ -315,7 +368,11 @@ impl Service {
     fn frame_left(self) -> Service
         ensures { λ r. ⌜ r ≡ frameLeft self ⌝ }
     {
-        Service { writing: self.writing.left(), reading: self.reading.left(), ..self }
+        Service {
+            writing: self.writing.left(),
+            reading: self.reading.left(),
+            ..self
+        }
     }
 }
 
@@ -326,7 +383,11 @@ impl Roles {
     {
         match shown {
             Shown::Nothing => self,
-            Shown::Ready => Roles { store: self.store, ready: self.fetch, fetch: self.ready },
+            Shown::Ready => Roles {
+                store: self.store,
+                ready: self.fetch,
+                fetch: self.ready,
+            },
             Shown::Fetch => self,
         }
     }

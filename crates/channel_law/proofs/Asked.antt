@@ -45,7 +45,7 @@ allowed f side d k j e =
       right-side = not-false _ (b .0);
       not-closed = c .0;
       not-ahead = leb-true _ _ (not-false _ (g .0));
-      may-open = λ z. sym (cond-true (eqb (takenOf f d) 0) _ _ (eq-eqb (takenOf f d) 0 z)) ∙ g .1
+      may-open = λ z. sym (cond-true (eqb (takenOf f d) 0) _ _ (eq-eqb (takenOf f d) 0 z)) ∙ g .1;
     }
 
 pub opens-write : (q : Kind) (m : Bool) (k j : ℕ) → opens q Write m k ≡ Ok j → q ≡ Mailbox → m ≡ false

@@ -51,9 +51,12 @@ begun-held m w fits =
         roles = record { store-ready = λ e. omega arith; store-fetch = λ e. omega arith; ready-fetch = λ e. omega arith };
         writing = record { within = omega arith; taken = refl; content = λ j h. absurd (omega arith) };
         reading = record { within = omega arith; taken = refl; accessed′ = λ j h. absurd (omega arith); latest = tt; buffer = λ h. absurd (omega arith) };
-        shown = tt; some = λ e. absurd (false≢true e); over = tt; kind = begun-kind (w .kind)
+        shown = tt;
+        some = λ e. absurd (false≢true e);
+        over = tt;
+        kind = begun-kind (w .kind);
       };
-      flags = begun-flags (w .stores)
+      flags = begun-flags (w .stores);
     }
 
 -- THE FACTS that the service gives are those that the story tells.
@@ -97,11 +100,11 @@ pub facts-agree : (m : List ℕ) (s : Service) (t : Story) → Held m s t → fa
 facts-agree m s t h =
     let i = h .parts in
     let inside : factsOf s ≡ factsIn (s .window) t =
-          facts-are (s .window) _ _ _ _ _ _ _ _
-          (stored-told (s .window .stores) (s .window .length) (s .writing) (s .reading) (t .touched) (t .closed) _ (h .flags) (i .writing .taken))
-          (fetched-told (s .window .stores) (s .window .length) (s .writing) (s .reading) (t .touched) (t .closed) _ (h .flags) (i .reading .taken))
-          (closed-told (s .window .stores) (s .writing) (s .reading) (t .touched) (t .closed) (h .flags))
-          (message-told (s .window .kind) (writingExtent s) (readingExtent s) (present (s .shown)) t (i .kind)) in
+    facts-are (s .window) _ _ _ _ _ _ _ _
+    (stored-told (s .window .stores) (s .window .length) (s .writing) (s .reading) (t .touched) (t .closed) _ (h .flags) (i .writing .taken))
+    (fetched-told (s .window .stores) (s .window .length) (s .writing) (s .reading) (t .touched) (t .closed) _ (h .flags) (i .reading .taken))
+    (closed-told (s .window .stores) (s .writing) (s .reading) (t .touched) (t .closed) (h .flags))
+    (message-told (s .window .kind) (writingExtent s) (readingExtent s) (present (s .shown)) t (i .kind)) in
     subst (λ (w : Window). factsOf s ≡ factsIn w t) (h .same) inside
 
 -- A DONE ACCESS. The last offset closes.
@@ -183,12 +186,12 @@ store-held m s t h side k v j e =
     let one : Parts (set m (storePlace s k) v) (withStore s k) (addStore t k v) = stored m s t i k v (a .not-ahead) more free in
     let two : Parts (set m (storePlace s k) v) (withStore s k) (noted p c (addStore t k v)) = frame-noted (set m (storePlace s k) v) (withStore s k) (addStore t k v) one p c in
     let all : Held (set m (storePlace s k) v) (afterStore s k) (when (atOnce p c) writingCompleted (noted p c (addStore t k v))) =
-          record {
-            same = sym (window-writing (atOnce p c) (withStore s k)) ∙ (h .same ∙ sym (window-when (atOnce p c) writingCompleted (λ _. refl) (noted p c (addStore t k v)) ∙ window-noted p c (addStore t k v)));
-            parts = finish-writing (set m (storePlace s k) v) (atOnce p c) (withStore s k) (noted p c (addStore t k v)) (at-once-closes p p (s .writing) k c) two;
-            flags = subst (λ (w : Window). Flags (w .stores) (afterStore s k .writing) (afterStore s k .reading) (when (atOnce p c) writingCompleted (noted p c (addStore t k v)) .touched) (when (atOnce p c) writingCompleted (noted p c (addStore t k v)) .closed)) (window-writing (atOnce p c) (withStore s k))
-              (flags-store p c (withStore s k) (addStore t k v) (s .writing) k refl (h .flags))
-          } in
+    record {
+      same = sym (window-writing (atOnce p c) (withStore s k)) ∙ (h .same ∙ sym (window-when (atOnce p c) writingCompleted (λ _. refl) (noted p c (addStore t k v)) ∙ window-noted p c (addStore t k v)));
+      parts = finish-writing (set m (storePlace s k) v) (atOnce p c) (withStore s k) (noted p c (addStore t k v)) (at-once-closes p p (s .writing) k c) two;
+      flags = subst (λ (w : Window). Flags (w .stores) (afterStore s k .writing) (afterStore s k .reading) (when (atOnce p c) writingCompleted (noted p c (addStore t k v)) .touched) (when (atOnce p c) writingCompleted (noted p c (addStore t k v)) .closed)) (window-writing (atOnce p c) (withStore s k))
+          (flags-store p c (withStore s k) (addStore t k v) (s .writing) k refl (h .flags));
+    } in
     let told : Held (set m (storePlace s k) v) (afterStore s k) (storedIn (s .window) k v t) = subst (λ (b : Bool). Held (set m (storePlace s k) v) (afterStore s k) (when (atOnce p b) writingCompleted (noted p b (addStore t k v)))) (closes-told (s .window) k (a .in-window)) all in
     subst (λ (w : Window). Held (set m (storePlace s k) v) (afterStore s k) (storedIn w k v t)) (h .same) told
 
@@ -206,12 +209,12 @@ fetch-finish m s t h k v r kl same-window same-writing is i =
     let b = atOnce (otherSide p) c in
     let two : Parts m r (noted (otherSide p) c (addFetch t k v)) = frame-noted m r (addFetch t k v) i (otherSide p) c in
     let all : Held m (readingDoneIf b r) (when b readingCompleted (noted (otherSide p) c (addFetch t k v))) =
-          record {
-            same = sym (window-reading b r) ∙ (same-window ∙ (h .same ∙ sym (window-when b readingCompleted (λ _. refl) (noted (otherSide p) c (addFetch t k v)) ∙ window-noted (otherSide p) c (addFetch t k v))));
-            parts = finish-reading m b r (noted (otherSide p) c (addFetch t k v)) (λ z. ap closedBy is ∙ at-once-closes (otherSide p) (otherSide p) (s .reading) k c z) two;
-            flags = subst (λ (w : Window). Flags (w .stores) (readingDoneIf b r .writing) (readingDoneIf b r .reading) (when b readingCompleted (noted (otherSide p) c (addFetch t k v)) .touched) (when b readingCompleted (noted (otherSide p) c (addFetch t k v)) .closed)) (sym same-window ∙ window-reading b r)
-              (flags-fetch p c r (addFetch t k v) (s .reading) k is (subst (λ (x : Transaction). Flags p x (s .reading) (t .touched) (t .closed)) (sym same-writing) (h .flags)))
-          } in
+    record {
+      same = sym (window-reading b r) ∙ (same-window ∙ (h .same ∙ sym (window-when b readingCompleted (λ _. refl) (noted (otherSide p) c (addFetch t k v)) ∙ window-noted (otherSide p) c (addFetch t k v))));
+      parts = finish-reading m b r (noted (otherSide p) c (addFetch t k v)) (λ z. ap closedBy is ∙ at-once-closes (otherSide p) (otherSide p) (s .reading) k c z) two;
+      flags = subst (λ (w : Window). Flags (w .stores) (readingDoneIf b r .writing) (readingDoneIf b r .reading) (when b readingCompleted (noted (otherSide p) c (addFetch t k v)) .touched) (when b readingCompleted (noted (otherSide p) c (addFetch t k v)) .closed)) (sym same-window ∙ window-reading b r)
+          (flags-fetch p c r (addFetch t k v) (s .reading) k is (subst (λ (x : Transaction). Flags p x (s .reading) (t .touched) (t .closed)) (sym same-writing) (h .flags)));
+    } in
     let told : Held m (readingDoneIf b r) (fetchedIn (s .window) k v t) = subst (λ (z : Bool). Held m (readingDoneIf b r) (when (atOnce (otherSide p) z) readingCompleted (noted (otherSide p) z (addFetch t k v)))) (closes-told (s .window) k kl) all in
     subst (λ (w : Window). Held m (readingDoneIf b r) (fetchedIn w k v t)) (h .same) told
 
@@ -312,8 +315,9 @@ over-dropped Local t = record { touched = refl; closed = refl; window = window-w
 over-held : (m : List ℕ) (s r : Service) (t t′ : Story) → s .window ≡ t .window → s .window ≡ r .window → Over t t′ → Parts m r t′ → Flags (r .window .stores) (r .writing) (r .reading) false false → Held m r t′
 over-held m s r t t′ same stays o i f =
     record {
-      same = sym stays ∙ (same ∙ sym (o .window)); parts = i;
-      flags = subst₂ (λ (u c : Bool). Flags (r .window .stores) (r .writing) (r .reading) u c) (sym (o .touched)) (sym (o .closed)) f
+      same = sym stays ∙ (same ∙ sym (o .window));
+      parts = i;
+      flags = subst₂ (λ (u c : Bool). Flags (r .window .stores) (r .writing) (r .reading) u c) (sym (o .touched)) (sym (o .closed)) f;
     }
 
 pub kept-held : (m : List ℕ) (s : Service) (t : Story) → Held m s t → Held m (afterKept s) (keptStory t)
@@ -324,8 +328,8 @@ kept-held m s t h =
     let three : Parts m (afterKept s) (when c readingCompleted (when b writingCompleted t)) = frame-left m (completed s b c) _ two (writing-free s b c refl) (reading-free s b c refl) in
     let four : Parts m (afterKept s) (keptIn (s .window .stores) t) = kept-told m (afterKept s) t (s .window .stores) (s .writing) (s .reading) (h .flags) (frame-over m (afterKept s) _ three) in
     let all : Held m (afterKept s) (keptIn (s .window .stores) t) =
-          over-held m s (afterKept s) t (keptIn (s .window .stores) t) (h .same) (window-completed s b c) (over-kept (s .window .stores) t) four
-          (flags-over _ _ _ (left-touched (completed s b c .writing)) (left-closed (completed s b c .writing)) (left-touched (completed s b c .reading)) (left-closed (completed s b c .reading))) in
+    over-held m s (afterKept s) t (keptIn (s .window .stores) t) (h .same) (window-completed s b c) (over-kept (s .window .stores) t) four
+    (flags-over _ _ _ (left-touched (completed s b c .writing)) (left-closed (completed s b c .writing)) (left-touched (completed s b c .reading)) (left-closed (completed s b c .reading))) in
     subst (λ (w : Window). Held m (afterKept s) (keptIn (w .stores) t)) (h .same) all
 
 pub dropped-held : (m : List ℕ) (s : Service) (t : Story) → Held m s t → Held m (afterDropped s) (droppedStory t)
@@ -335,8 +339,8 @@ dropped-held m s t h =
     let two : Parts m (afterDropped s) (when c readingCancelled (when b writingCancelled t)) = reading-cancelled m _ (when b writingCancelled t) one c in
     let three : Parts m (afterDropped s) (droppedIn (s .window .stores) t) = dropped-told m (afterDropped s) t (s .window .stores) (s .writing) (s .reading) (h .flags) (frame-over m (afterDropped s) _ two) in
     let all : Held m (afterDropped s) (droppedIn (s .window .stores) t) =
-          over-held m s (afterDropped s) t (droppedIn (s .window .stores) t) (h .same) refl (over-dropped (s .window .stores) t) three
-          (flags-over _ _ _ (cancelled-touched (s .writing)) (cancelled-closed (s .writing)) (cancelled-touched (s .reading)) (cancelled-closed (s .reading))) in
+    over-held m s (afterDropped s) t (droppedIn (s .window .stores) t) (h .same) refl (over-dropped (s .window .stores) t) three
+    (flags-over _ _ _ (cancelled-touched (s .writing)) (cancelled-closed (s .writing)) (cancelled-touched (s .reading)) (cancelled-closed (s .reading))) in
     subst (λ (w : Window). Held m (afterDropped s) (droppedIn (w .stores) t)) (h .same) all
 
 -- A CHANGE OF THE MEMORY outside the area
@@ -346,21 +350,23 @@ memory-held m n s t h long agree = record { same = h .same; parts = elsewhere-he
 pub write-elsewhere : (m : List ℕ) (s : Service) (t : Story) → Held m s t → (p v : ℕ) → inArea (s .window) p ≡ false → Held (set m p v) s t
 write-elsewhere m s t h p v e =
     memory-held m (set m p v) s t h (length-set m p v) (λ q lo hi.
-      getD-set-other m p q v 0 (λ z.
-        ⊎-elim (λ x. let y = leb-false (s .window .start - 0x1000) p x in omega arith) (λ x. let y = ltb-false p (s .window .start - 0x1000 + areaSize (s .window)) x in omega arith)
-        (and-cases (leb (s .window .start - 0x1000) p) (ltb p (s .window .start - 0x1000 + areaSize (s .window))) e)))
+    getD-set-other m p q v 0 (λ z.
+    ⊎-elim (λ x. let y = leb-false (s .window .start - 0x1000) p x in omega arith) (λ x. let y = ltb-false p (s .window .start - 0x1000 + areaSize (s .window)) x in omega arith)
+    (and-cases (leb (s .window .start - 0x1000) p) (ltb p (s .window .start - 0x1000 + areaSize (s .window))) e)))
 
 -- AN ACCESS changes its own area alone, and concerns a place that the memory has.
 pub store-inside : (m : List ℕ) (s : Service) (t : Story) → Held m s t → (k : ℕ) → k < s .window .length → (inArea (s .window) (storePlace s k) ≡ true) × (storePlace s k < length m)
-store-inside m s t h k kl =
-    (and-from _ _ (le-leb _ _ (place-from (s .window) (numberOf (s .roles .store)) k)) (lt-ltb _ _ (place-below (s .window) (s .roles .store) k kl)),
-     place-exists (s .window) (length m) (h .parts .fits .room) (s .roles .store) k kl)
+store-inside m s t h k kl = (
+  and-from _ _ (le-leb _ _ (place-from (s .window) (numberOf (s .roles .store)) k)) (lt-ltb _ _ (place-below (s .window) (s .roles .store) k kl)),
+  place-exists (s .window) (length m) (h .parts .fits .room) (s .roles .store) k kl,
+)
 
 pub fetch-inside : (m : List ℕ) (s : Service) (t : Story) → Held m s t → (k : ℕ) → k < s .window .length → (inArea (s .window) (fetchPlace s k) ≡ true) × (fetchPlace s k < length m)
 fetch-inside m s t h k kl =
-    let b = opened s .roles .fetch in
-    (and-from _ _ (le-leb _ _ (place-from (s .window) (numberOf b) k)) (lt-ltb _ _ (place-below (s .window) b k kl)),
-     place-exists (s .window) (length m) (h .parts .fits .room) b k kl)
+    let b = opened s .roles .fetch in (
+      and-from _ _ (le-leb _ _ (place-from (s .window) (numberOf b) k)) (lt-ltb _ _ (place-below (s .window) b k kl)),
+      place-exists (s .window) (length m) (h .parts .fits .room) b k kl,
+    )
 
 pub store-elsewhere : (m : List ℕ) (s : Service) (t : Story) → Held m s t → (k v p : ℕ) → k < s .window .length → inArea (s .window) p ≡ false → getD (set m (storePlace s k) v) p 0 ≡ getD m p 0
 store-elsewhere m s t h k v p kl out = getD-set-other m (storePlace s k) p v 0 (λ e. true≢false (sym (store-inside m s t h k kl .0) ∙ (ap (inArea (s .window)) (sym e) ∙ out)))

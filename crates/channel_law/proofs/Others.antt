@@ -85,9 +85,9 @@ disjoint-places n w v f g d p e =
     let z = leb-true 0x1000 (v .start) (and-parts (leb 0x1000 (v .start)) _ (g .room) .0) in
     ⊎-elim
     (λ x.
-      let b = and-parts (leb (v .start - 0x1000) p) _ x in
-      let l = leb-true (v .start - 0x1000) p (b .0) in let h = ltb-true p (v .start - 0x1000 + areaSize v) (b .1) in
-      absurd (d (p + 0x1000) (omega arith) (omega arith) (omega arith) (omega arith)))
+    let b = and-parts (leb (v .start - 0x1000) p) _ x in
+    let l = leb-true (v .start - 0x1000) p (b .0) in let h = ltb-true p (v .start - 0x1000 + areaSize v) (b .1) in
+    absurd (d (p + 0x1000) (omega arith) (omega arith) (omega arith) (omega arith)))
     (λ x. x)
     (cases-bool (inArea v p))
 

@@ -35,7 +35,8 @@ writing-done true s h =
     let w = h .writing in
     record {
       roles = record { store-ready = λ e. h .roles .store-ready (sym e); store-fetch = h .roles .ready-fetch; ready-fetch = h .roles .store-fetch };
-      writing = omega arith; reading = h .reading
+      writing = omega arith;
+      reading = h .reading;
     }
 
 reading-done : (b : Bool) (s : Service) → Sound s → Sound (readingDoneIf b s)
@@ -63,5 +64,5 @@ services-stay-sound = record {
   stores = λ s k h. writing-done (atOnce (s .window .stores) (closes (s .window) k)) (withStore s k) (record { roles = h .roles; writing = more (s .window) (s .window .stores) (s .writing) k (closes (s .window) k) refl (h .writing); reading = h .reading });
   fetches = λ s k h. reading-done (atOnce (otherSide (s .window .stores)) (closes (s .window) k)) (withFetch (opened s) k) (fetch-sound (opened s) k (open-sound (eqb (takenBy (s .reading)) 0) s h));
   keeps = λ s h. left-sound _ (reading-done (closedBy (s .reading)) (writingDoneIf (closedBy (s .writing)) s) (writing-done (closedBy (s .writing)) s h));
-  drops = λ s h. record { roles = h .roles; writing = cancelled-below _ (s .writing) (touchedBy (s .writing)) (h .writing); reading = cancelled-below _ (s .reading) (touchedBy (s .reading)) (h .reading) }
+  drops = λ s h. record { roles = h .roles; writing = cancelled-below _ (s .writing) (touchedBy (s .writing)) (h .writing); reading = cancelled-below _ (s .reading) (touchedBy (s .reading)) (h .reading) };
 }

@@ -121,12 +121,16 @@ module _ (m : List ℕ) (s : Service) (t : Story) (i : Parts m s t) (k v : ℕ) 
     roles = i .roles;
     writing = writing′ (s .window .stores) (closes (s .window) k) refl;
     reading = record {
-      within = i .reading .within; taken = i .reading .taken; accessed′ = i .reading .accessed′; latest = i .reading .latest;
-      buffer = λ h. stays (s .roles .fetch) _ (i .roles .store-fetch) (λ q. true≢false (sym (is-busy (s .window .kind) _ _ _ _ _ _ (i .kind) q (taken-extent (s .window .length) (s .reading) h)) ∙ free q)) (i .reading .buffer h)
+      within = i .reading .within;
+      taken = i .reading .taken;
+      accessed′ = i .reading .accessed′;
+      latest = i .reading .latest;
+      buffer = λ h. stays (s .roles .fetch) _ (i .roles .store-fetch) (λ q. true≢false (sym (is-busy (s .window .kind) _ _ _ _ _ _ (i .kind) q (taken-extent (s .window .length) (s .reading) h)) ∙ free q)) (i .reading .buffer h);
     };
     shown = shown′ (s .shown) refl (i .shown);
-    some = i .some; over = i .over;
-    kind = kind′ (s .window .kind) _ _ _ _ _ _ _ free (i .kind)
+    some = i .some;
+    over = i .over;
+    kind = kind′ (s .window .kind) _ _ _ _ _ _ _ free (i .kind);
   }
 
 -- A CLOSED WRITING COMPLETES.
@@ -152,8 +156,10 @@ module _ (m : List ℕ) (s : Service) (t : Story) (i : Parts m s t) (closed : cl
       let c : length (t .written) ≡ length rs + 0 = x .counts ∙ ap (λ (z : Bool). length rs + cond z 1 0) empty in
       let l = length-push (t .written) (t .writing) in
       record {
-        counts = omega arith; quiet = λ _. refl; busy = λ g. absurd (no-p (x .busy g .0));
-        in-order = λ n g. subst (λ (y : Accesses). Shows y (getD rs n [])) (sym (getD-append-left (t .written) (t .writing ∷ []) [] n (omega arith))) (x .in-order n g)
+        counts = omega arith;
+        quiet = λ _. refl;
+        busy = λ g. absurd (no-p (x .busy g .0));
+        in-order = λ n g. subst (λ (y : Accesses). Shows y (getD rs n [])) (sym (getD-append-left (t .written) (t .writing ∷ []) [] n (omega arith))) (x .in-order n g);
       }
 
   pub writing-completes : Parts m (writingDone s) (writingCompleted t)
@@ -167,15 +173,20 @@ module _ (m : List ℕ) (s : Service) (t : Story) (i : Parts m s t) (closed : cl
         shown = subst (Holds m (s .window) (s .roles .store)) (sym (latest-push (t .written) (t .writing))) (λ j h. i .writing .content j (omega arith));
         some = λ _. omega arith;
         over = all-more (t .written) (t .writing) (t .over) (i .over);
-        kind = kind″ (s .window .kind) _ _ _ _ _ (omega arith) (i .kind)
+        kind = kind″ (s .window .kind) _ _ _ _ _ (omega arith) (i .kind);
       }
 
 -- A READING OPENS, or goes on: the buffer, and how many writings were completed.
 abbrev pub numbered : Story → Story
 numbered t = record {
-  window = t .window; written = t .written; writing = t .writing; over = t .over;
+  window = t .window;
+  written = t .written;
+  writing = t .writing;
+  over = t .over;
   reading = record { before = beforeThis (t .reading .before) (length (t .written)) (t .reading .fetched); fetched = t .reading .fetched };
-  read = t .read; touched = t .touched; closed = t .closed
+  read = t .read;
+  touched = t .touched;
+  closed = t .closed;
 }
 
 module _ (m : List ℕ) (s : Service) (t : Story) (i : Parts m s t) (more : closedBy (s .reading) ≡ false) where
@@ -220,25 +231,33 @@ module _ (m : List ℕ) (s : Service) (t : Story) (i : Parts m s t) (more : clos
       let ne = eqb-false (takenBy (s .reading)) 0 e in
       let h : 0 < takenBy (s .reading) = omega arith in
       record {
-        fits = i .fits; roles = i .roles; writing = i .writing; shown = i .shown; some = i .some; over = i .over;
+        fits = i .fits;
+        roles = i .roles;
+        writing = i .writing;
+        shown = i .shown;
+        some = i .some;
+        over = i .over;
         reading = subst (λ (n : ℕ). ReadingHeld m (s .window) (s .roles .fetch) (takenBy (s .reading)) (extent (s .window .length) (s .reading)) (record { before = n; fetched = t .reading .fetched }) (t .written)) (sym (same-number h)) (i .reading);
-        kind = subst (λ (n : ℕ). KindHeld (s .window .kind) (writingExtent s) (readingExtent s) (present (s .shown)) (t .written) n (t .read)) (sym (same-number h)) (i .kind)
+        kind = subst (λ (n : ℕ). KindHeld (s .window .kind) (writingExtent s) (readingExtent s) (present (s .shown)) (t .written) n (t .read)) (sym (same-number h)) (i .kind);
       }
   opened-held true e =
       let z = eqb-true (takenBy (s .reading)) 0 e in
       let y = extent-open (s .window .length) (s .reading) more in
       record {
-        fits = i .fits; roles = roles′ (s .shown);
+        fits = i .fits;
+        roles = roles′ (s .shown);
         writing = subst (λ (b : Buffer). WritingHeld m (s .window) b (takenBy (s .writing)) (writingExtent s) (t .writing)) (store-same (s .shown)) (i .writing);
         reading = record {
-          within = i .reading .within; taken = i .reading .taken; accessed′ = i .reading .accessed′;
+          within = i .reading .within;
+          taken = i .reading .taken;
+          accessed′ = i .reading .accessed′;
           latest = subst (λ (xs : Accesses). ShowsLatest (t .written) number xs) (sym (none-open z)) tt;
-          buffer = λ h. absurd (omega arith)
+          buffer = λ h. absurd (omega arith);
         };
         shown = shown″ (s .shown) (i .shown);
         some = λ p. i .some (present-same (s .shown) ∙ p);
         over = i .over;
-        kind = subst (λ (p : Bool). KindHeld (s .window .kind) (writingExtent s) (readingExtent s) p (t .written) number (t .read)) (present-same (s .shown)) (kind‴ (s .window .kind) (writingExtent s) (readingExtent s) (present (s .shown)) (t .reading .before) number (t .read) (y ∙ z) (i .kind))
+        kind = subst (λ (p : Bool). KindHeld (s .window .kind) (writingExtent s) (readingExtent s) p (t .written) number (t .read)) (present-same (s .shown)) (kind‴ (s .window .kind) (writingExtent s) (readingExtent s) (present (s .shown)) (t .reading .before) number (t .read) (y ∙ z) (i .kind));
       }
 
   -- what the reading finds
@@ -261,10 +280,10 @@ module _ (m : List ℕ) (s : Service) (t : Story) (i : Parts m s t) (more : clos
     numbers =
         ⊎-elim
         (λ h.
-          let e = extent-open (s .window .length) (s .reading) more in let y = i .reading .taken in
-          let l = latest-some (t .written) (t .reading .before) (t .reading .fetched) (omega arith) (i .reading .latest) in
-          let q = same-number h in let l0 = l .0 in let l1 = l .1 in
-          (omega arith, omega arith))
+        let e = extent-open (s .window .length) (s .reading) more in let y = i .reading .taken in
+        let l = latest-some (t .written) (t .reading .before) (t .reading .fetched) (omega arith) (i .reading .latest) in
+        let q = same-number h in let l0 = l .0 in let l1 = l .1 in
+        (omega arith, omega arith))
         (λ h. let z : takenBy (s .reading) ≡ 0 = omega arith in let q = new-number z in let g = i .some (there z) in (omega arith, omega arith))
         (cases-lt 0 (takenBy (s .reading)))
 
@@ -280,8 +299,14 @@ module _ (m : List ℕ) (s : Service) (t : Story) (i : Parts m s t) (more : clos
 -- AN OCTET IS FETCHED by a reading whose writing stands in the fetch buffer.
 abbrev pub taking : Story → (k v : ℕ) → Story
 taking t k v = record {
-  window = t .window; written = t .written; writing = t .writing; over = t .over; reading = record { before = t .reading .before; fetched = (k, v) ∷ t .reading .fetched };
-  read = t .read; touched = t .touched; closed = t .closed
+  window = t .window;
+  written = t .written;
+  writing = t .writing;
+  over = t .over;
+  reading = record { before = t .reading .before; fetched = (k, v) ∷ t .reading .fetched };
+  read = t .read;
+  touched = t .touched;
+  closed = t .closed;
 }
 
 module _ (m : List ℕ) (s : Service) (t : Story) (i : Parts m s t) (k : ℕ) (turn : k ≤ takenBy (s .reading)) (more : closedBy (s .reading) ≡ false)
@@ -316,8 +341,14 @@ module _ (m : List ℕ) (s : Service) (t : Story) (i : Parts m s t) (k : ℕ) (t
 
   taken-more : Parts m (withFetch s k) (taking t k octet)
   taken-more = record {
-    fits = i .fits; roles = i .roles; writing = i .writing; reading = reading′ _ (closes (s .window) k) refl; shown = i .shown; some = i .some; over = i .over;
-    kind = kind⁗ (s .window .kind) _ _ _ _ _ mail′ (i .kind)
+    fits = i .fits;
+    roles = i .roles;
+    writing = i .writing;
+    reading = reading′ _ (closes (s .window) k) refl;
+    shown = i .shown;
+    some = i .some;
+    over = i .over;
+    kind = kind⁗ (s .window .kind) _ _ _ _ _ mail′ (i .kind);
   }
 
 -- both together: a fetch in its turn, where a message is there if a reading opens
@@ -356,26 +387,32 @@ module _ (m : List ℕ) (s : Service) (t : Story) (i : Parts m s t) (closed : cl
       let c : length (t .written) ≡ length (t .read) + 1 = h .counts ∙ ap (λ (z : Bool). length (t .read) + cond z 1 0) (b .0) in
       let l = length-push (t .read) (t .reading .fetched) in
       record {
-        counts = omega arith; quiet = λ z. absurd (false≢true z); busy = λ z. absurd (omega arith);
+        counts = omega arith;
+        quiet = λ z. absurd (false≢true z);
+        busy = λ z. absurd (omega arith);
         in-order = λ j z.
-          ⊎-elim
-          (λ x. subst (Shows (getD (t .written) j [])) (sym (getD-append-left (t .read) (t .reading .fetched ∷ []) [] j x)) (h .in-order j x))
-          (λ x.
+            ⊎-elim
+            (λ x. subst (Shows (getD (t .written) j [])) (sym (getD-append-left (t .read) (t .reading .fetched ∷ []) [] j x)) (h .in-order j x))
+            (λ x.
             let at : length (t .read) ≡ j = omega arith in
             let number : t .reading .before - 1 ≡ j = omega arith in
             subst (Shows (getD (t .written) j [])) (sym (getD-push (t .read) (t .reading .fetched) [] j at))
             (subst (λ (y : ℕ). Shows (getD (t .written) y []) (t .reading .fetched)) number (latest-shows (t .written) (t .reading .before) (t .reading .fetched) (i .reading .latest))))
-          (cases-lt j (length (t .read)))
+            (cases-lt j (length (t .read)));
       }
 
   pub reading-completes : Parts m (readingDone s) (readingCompleted t)
   reading-completes =
       let two = i .fits .long in let f = shut in
       record {
-        fits = i .fits; roles = i .roles; writing = i .writing;
+        fits = i .fits;
+        roles = i .roles;
+        writing = i .writing;
         reading = record { within = omega arith; taken = refl; accessed′ = λ j h. absurd (omega arith); latest = tt; buffer = λ h. absurd (omega arith) };
-        shown = shown‴ (s .window .kind); some = some′ (s .window .kind); over = (i .reading .latest, i .over);
-        kind = kind⁵ (s .window .kind) _ _ (omega arith) (i .kind)
+        shown = shown‴ (s .window .kind);
+        some = some′ (s .window .kind);
+        over = (i .reading .latest, i .over);
+        kind = kind⁵ (s .window .kind) _ _ (omega arith) (i .kind);
       }
 
 -- A FRAME'S END
@@ -399,8 +436,14 @@ module _ (m : List ℕ) (s : Service) (t : Story) (i : Parts m s t) where
   writing-cancelled true =
       let two = i .fits .long in
       record {
-        fits = i .fits; roles = i .roles; writing = record { within = omega arith; taken = refl; content = λ j h. absurd (omega arith) };
-        reading = i .reading; shown = i .shown; some = i .some; over = i .over; kind = kind⁷ (s .window .kind) _ _ _ _ _ _ (i .kind)
+        fits = i .fits;
+        roles = i .roles;
+        writing = record { within = omega arith; taken = refl; content = λ j h. absurd (omega arith) };
+        reading = i .reading;
+        shown = i .shown;
+        some = i .some;
+        over = i .over;
+        kind = kind⁷ (s .window .kind) _ _ _ _ _ _ (i .kind);
       }
   writing-cancelled false = record { fits = i .fits; roles = i .roles; writing = i .writing; reading = i .reading; shown = i .shown; some = i .some; over = i .over; kind = i .kind }
 
@@ -408,9 +451,14 @@ module _ (m : List ℕ) (s : Service) (t : Story) (i : Parts m s t) where
   reading-cancelled true =
       let two = i .fits .long in
       record {
-        fits = i .fits; roles = i .roles; writing = i .writing;
+        fits = i .fits;
+        roles = i .roles;
+        writing = i .writing;
         reading = record { within = omega arith; taken = refl; accessed′ = λ j h. absurd (omega arith); latest = tt; buffer = λ h. absurd (omega arith) };
-        shown = i .shown; some = i .some; over = (i .reading .latest, i .over); kind = kind⁶ (s .window .kind) _ _ _ _ _ _ _ _ refl (i .kind)
+        shown = i .shown;
+        some = i .some;
+        over = (i .reading .latest, i .over);
+        kind = kind⁶ (s .window .kind) _ _ _ _ _ _ _ _ refl (i .kind);
       }
   reading-cancelled false = record { fits = i .fits; roles = i .roles; writing = i .writing; reading = i .reading; shown = i .shown; some = i .some; over = i .over; kind = i .kind }
 
@@ -429,11 +477,14 @@ module _ (m : List ℕ) (s : Service) (t : Story) (i : Parts m s t) where
       let wt = left-taken (s .writing) in let we = left-extent (s .window .length) (s .writing) p in
       let rt = left-taken (s .reading) in let re = left-extent (s .window .length) (s .reading) q in
       record {
-        fits = i .fits; roles = i .roles;
+        fits = i .fits;
+        roles = i .roles;
         writing = subst₂ (λ (n e : ℕ). WritingHeld m (s .window) (s .roles .store) n e (t .writing)) wt we (i .writing);
         reading = subst₂ (λ (n e : ℕ). ReadingHeld m (s .window) (s .roles .fetch) n e (t .reading) (t .written)) rt re (i .reading);
-        shown = i .shown; some = i .some; over = i .over;
-        kind = subst₂ (λ (e d : ℕ). KindHeld (s .window .kind) e d (present (s .shown)) (t .written) (t .reading .before) (t .read)) we re (i .kind)
+        shown = i .shown;
+        some = i .some;
+        over = i .over;
+        kind = subst₂ (λ (e d : ℕ). KindHeld (s .window .kind) e d (present (s .shown)) (t .written) (t .reading .before) (t .read)) we re (i .kind);
       }
 
   -- what is told of the running frame is no part of it
@@ -473,5 +524,8 @@ module _ (m n : List ℕ) (s : Service) (t : Story) (i : Parts m s t) (long : le
         roles = i .roles;
         writing = record { within = i .writing .within; taken = i .writing .taken; content = λ j h. i .writing .content j h ∙ ap Some (there (s .roles .store) j (omega arith)) };
         reading = record { within = i .reading .within; taken = i .reading .taken; accessed′ = i .reading .accessed′; latest = i .reading .latest; buffer = λ h. holds (s .roles .fetch) _ (i .reading .buffer h) };
-        shown = shown⁴ (s .shown) (i .shown); some = i .some; over = i .over; kind = i .kind
+        shown = shown⁴ (s .shown) (i .shown);
+        some = i .some;
+        over = i .over;
+        kind = i .kind;
       }

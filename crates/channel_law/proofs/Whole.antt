@@ -163,11 +163,11 @@ module _ (m : List ℕ) (s : Service) (t : Story) (h : Held m s t) where
 pub answered : (S : State) (t : Story) → HeldIn S t → (c : Call) → Answered t c (answer S c)
 answered S t h (write side k v) = record {
   as-asked = bare-done (asked (factsOf (S .service)) side Write k) ∙ ap (λ (g : Facts). answerTo done (asked g side Write k)) (told (S .octets) (S .service) t h);
-  in-words = words-write (S .octets) (S .service) t h side k
+  in-words = words-write (S .octets) (S .service) t h side k;
 }
 answered S t h (read side k) = record {
   as-asked = bare-got _ (asked (factsOf (S .service)) side Read k) ∙ ap (λ (g : Facts). answerTo (got 0) (asked g side Read k)) (told (S .octets) (S .service) t h);
-  in-words = words-read (S .octets) (S .service) t h side k _
+  in-words = words-read (S .octets) (S .service) t h side k _;
 }
 answered S t h kept = record { as-asked = refl; in-words = tt }
 answered S t h dropped = record { as-asked = refl; in-words = tt }
