@@ -24,7 +24,7 @@ use Rattle.channel.specs.declared.service.Service.{Service}
 use Rattle.channel.specs.Facts.{isMaster, takenOf, asked}
 use Rattle.channel.specs.Windows.{areaSize, placeIn}
 use Rattle.channel.specs.Services.{takenBy, touchedBy, closedBy, closes, accessed, left, cancelled, numberOf, present, begun, factsOf, writingDoneIf, readingDoneIf, atOnce, otherSide, withStore, afterStore, openedIf, opened, withFetch, afterFetch, storePlace, fetchPlace, frameLeft, afterKept, afterDropped}
-use Rattle.channel_law.specs.Story.{Accesses, Story, newStory, takenIn, none, closedWriting, closedReading, messageTold, factsIn, factsTold, addStore, addFetch, noted, writingCompleted, writingCancelled, readingCompleted, readingCancelled, when, closing, storedIn, fetchedIn, storedAt, fetchedAt, frameOver, keptIn, droppedIn, keptStory, droppedStory}
+use Rattle.channel_law.specs.Story.{Accesses, Story, newStory, takenIn, none, closedWriting, closedReading, messageTold, factsIn, factsTold, addStore, addFetch, noted, writingCompleted, writingCancelled, readingCompleted, readingCancelled, when, closing, completing, storedIn, fetchedIn, storedAt, fetchedAt, frameOver, keptIn, droppedIn, keptStory, droppedStory}
 use Rattle.channel_law.specs.Runs.{inArea}
 use Rattle.channel_law.specs.Law.{Fits}
 use Rattle.channel_law.proofs.Held.{extent, KindHeld, MailboxHeld, Parts, FlagsOf, Flags, Held}
@@ -115,6 +115,10 @@ closes-told w k h =
     (λ ne. lt-leb (w .length) (k + 1) (omega arith) ∙ sym (ne-eqb (k + 1) (w .length) ne))
     (cases-eq (k + 1) (w .length))
 
+at-once-told : (p : Side) (c : Bool) → atOnce p c ≡ completing p c
+at-once-told Master c = refl
+at-once-told Local c = refl
+
 at-once-closes : (p side : Side) (x : Transaction) (k : ℕ) (c : Bool) → atOnce p c ≡ true → closedBy (accessed side x k c) ≡ true
 at-once-closes Master side x k c e = absurd (false≢true e)
 at-once-closes Local side x k true e = refl
@@ -192,7 +196,9 @@ store-held m s t h side k v j e =
       flags = subst (λ (w : Window). Flags (w .stores) (afterStore s k .writing) (afterStore s k .reading) (when (atOnce p c) writingCompleted (noted p c (addStore t k v)) .touched) (when (atOnce p c) writingCompleted (noted p c (addStore t k v)) .closed)) (window-writing (atOnce p c) (withStore s k))
           (flags-store p c (withStore s k) (addStore t k v) (s .writing) k refl (h .flags));
     } in
-    let told : Held (set m (storePlace s k) v) (afterStore s k) (storedIn (s .window) k v t) = subst (λ (b : Bool). Held (set m (storePlace s k) v) (afterStore s k) (when (atOnce p b) writingCompleted (noted p b (addStore t k v)))) (closes-told (s .window) k (a .in-window)) all in
+    let last = subst (λ (b : Bool). Held (set m (storePlace s k) v) (afterStore s k) (when (atOnce p b) writingCompleted (noted p b (addStore t k v)))) (closes-told (s .window) k (a .in-window)) all in
+    let told : Held (set m (storePlace s k) v) (afterStore s k) (storedIn (s .window) k v t) =
+          subst (λ (b : Bool). Held (set m (storePlace s k) v) (afterStore s k) (when b writingCompleted (noted p (closing (s .window) k) (addStore t k v)))) (at-once-told p (closing (s .window) k)) last in
     subst (λ (w : Window). Held (set m (storePlace s k) v) (afterStore s k) (storedIn w k v t)) (h .same) told
 
 -- the octet that a fetch finds, once the buffer is chosen
@@ -215,7 +221,9 @@ fetch-finish m s t h k v r kl same-window same-writing is i =
       flags = subst (λ (w : Window). Flags (w .stores) (readingDoneIf b r .writing) (readingDoneIf b r .reading) (when b readingCompleted (noted (otherSide p) c (addFetch t k v)) .touched) (when b readingCompleted (noted (otherSide p) c (addFetch t k v)) .closed)) (sym same-window ∙ window-reading b r)
           (flags-fetch p c r (addFetch t k v) (s .reading) k is (subst (λ (x : Transaction). Flags p x (s .reading) (t .touched) (t .closed)) (sym same-writing) (h .flags)));
     } in
-    let told : Held m (readingDoneIf b r) (fetchedIn (s .window) k v t) = subst (λ (z : Bool). Held m (readingDoneIf b r) (when (atOnce (otherSide p) z) readingCompleted (noted (otherSide p) z (addFetch t k v)))) (closes-told (s .window) k kl) all in
+    let last = subst (λ (z : Bool). Held m (readingDoneIf b r) (when (atOnce (otherSide p) z) readingCompleted (noted (otherSide p) z (addFetch t k v)))) (closes-told (s .window) k kl) all in
+    let told : Held m (readingDoneIf b r) (fetchedIn (s .window) k v t) =
+          subst (λ (z : Bool). Held m (readingDoneIf b r) (when z readingCompleted (noted (otherSide p) (closing (s .window) k) (addFetch t k v)))) (at-once-told (otherSide p) (closing (s .window) k)) last in
     subst (λ (w : Window). Held m (readingDoneIf b r) (fetchedIn w k v t)) (h .same) told
 
 fetch-by : (m : List ℕ) (s : Service) (t : Story) → Held m s t → (k : ℕ) → k < s .window .length → (o : Bool) → Parts m (withFetch (openedIf o s) k) (addFetch t k (fetchedBy m s o k)) →

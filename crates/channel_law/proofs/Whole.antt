@@ -47,7 +47,7 @@ elsewhere-kept : (S : State) (t : Story) → Held (S .octets) (S .service) t →
 elsewhere-kept S t h p v true e = h
 elsewhere-kept S t h p v false e = write-elsewhere (S .octets) (S .service) t h p v e
 
-abbrev HeldIn : State → Story → Type 0
+abbrev pub HeldIn : State → Story → Type 0
 HeldIn S t = Held (S .octets) (S .service) t
 
 pub keeps : (S : State) (t : Story) → HeldIn S t → (c : Call) → HeldIn (step S c) (note t c (answer S c))
@@ -121,7 +121,7 @@ module _ (m : List ℕ) (s : Service) (t : Story) (h : Held m s t) where
   told : factsOf s ≡ factsTold t
   told = facts-agree m s t h
 
-  words-write : (side : Side) (k : ℕ) → RefusedRightly t side Write k (answerTo done (asked (factsOf s) side Write k))
+  pub words-write : (side : Side) (k : ℕ) → RefusedRightly t side Write k (answerTo done (asked (factsOf s) side Write k))
   words-write side k buffered i =
       let f = factsTold t in
       let who = side-writes side (t .window .stores) (i .right-side) in
@@ -148,7 +148,7 @@ module _ (m : List ℕ) (s : Service) (t : Story) (h : Held m s t) where
       let ne = eqb-false (takenOf (factsTold t) Read) 0 e in
       written-if (t .reading .before) (t .reading .fetched) (h .parts .reading .latest) (cut (closedReading (t .window) t) (takenIn (t .reading .fetched)) (omega arith))
 
-  words-read : (side : Side) (k v : ℕ) → RefusedRightly t side Read k (answerTo (got v) (asked (factsOf s) side Read k))
+  pub words-read : (side : Side) (k v : ℕ) → RefusedRightly t side Read k (answerTo (got v) (asked (factsOf s) side Read k))
   words-read side k v buffered i =
       let f = factsTold t in
       let who = side-reads side (t .window .stores) (i .right-side) in

@@ -12,7 +12,7 @@ use Rattle.channel.specs.declared.setting.Kind.the-variants.{Buffered, Mailbox}
 use Rattle.channel.specs.declared.setting.Window.{Window}
 use Rattle.channel.specs.declared.facts.Facts.{Facts}
 use Rattle.channel.specs.Facts.{isMaster}
-use Rattle.channel.specs.Services.{atOnce, otherSide}
+use Rattle.channel.specs.Services.{otherSide}
 
 -- The accesses of one transaction, each an offset and its octet, the newest first. A transaction with none is not open.
 abbrev pub Accesses : Type 0
@@ -116,11 +116,15 @@ when false f t = t
 abbrev pub closing : Window → ℕ → Bool
 closing w k = eqb (k + 1) (w .length)
 
+abbrev pub completing : Side → (closing : Bool) → Bool
+completing Local c = c
+completing Master c = false
+
 abbrev pub storedIn : Window → (k v : ℕ) → Story → Story
-storedIn w k v t = when (atOnce (w .stores) (closing w k)) writingCompleted (noted (w .stores) (closing w k) (addStore t k v))
+storedIn w k v t = when (completing (w .stores) (closing w k)) writingCompleted (noted (w .stores) (closing w k) (addStore t k v))
 
 abbrev pub fetchedIn : Window → (k v : ℕ) → Story → Story
-fetchedIn w k v t = when (atOnce (otherSide (w .stores)) (closing w k)) readingCompleted (noted (otherSide (w .stores)) (closing w k) (addFetch t k v))
+fetchedIn w k v t = when (completing (otherSide (w .stores)) (closing w k)) readingCompleted (noted (otherSide (w .stores)) (closing w k) (addFetch t k v))
 
 abbrev pub storedAt : (k v : ℕ) → Story → Story
 storedAt k v t = storedIn (t .window) k v t
