@@ -7,3 +7,4 @@ pub mod Keeps
 pub mod Whole
 pub mod Sound
 pub mod Others
+pub mod Many
