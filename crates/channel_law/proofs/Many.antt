@@ -16,18 +16,19 @@ use Rattle.std.specs.declared.result.Result.the-variants.{Ok}
 use Rattle.access.specs.declared.Side.{Side}
 use Rattle.access.specs.declared.Direction.the-variants.{Read, Write}
 use Rattle.channel.specs.declared.setting.Window.{Window}
+use Rattle.channel.specs.declared.facts.Facts.{Facts}
 use Rattle.channel.specs.declared.service.Service.{Service}
 use Rattle.channel.specs.declared.record.Channel.{Channel}
 use Rattle.channel.specs.Facts.{asked}
 use Rattle.channel.specs.Windows.{areaSize}
 use Rattle.channel.specs.Services.{begun, factsOf, storePlace, fetchPlace, afterStore, afterFetch, afterKept, afterDropped}
-use Rattle.channel_law.specs.Story.{Story, newStory, storedAt, fetchedAt, keptStory, droppedStory}
+use Rattle.channel_law.specs.Story.{Story, newStory, factsTold, storedAt, fetchedAt, keptStory, droppedStory}
 use Rattle.channel_law.specs.Runs.{inArea}
 use Rattle.channel_law.specs.Law.{Fits, Whole}
 use Rattle.channel_law.specs.Enabling.{Disjoint, DisjointIn, DisjointAll}
 use Rattle.channel_law.proofs.Held.{Held}
 use Rattle.channel_law.proofs.Asked.{allowed}
-use Rattle.channel_law.proofs.Keeps.{begun-held, facts-agree, store-held, fetch-held, kept-held, dropped-held, memory-held, store-elsewhere}
+use Rattle.channel_law.proofs.Keeps.{begun-held, facts-agree, store-held, fetch-held, kept-held, dropped-held, memory-held, write-elsewhere, store-elsewhere}
 use Rattle.channel_law.proofs.Others.{disjoint-places}
 use Rattle.channel_law.proofs.Whole.{whole}
 
@@ -169,3 +170,81 @@ all-kept m cs ts h = all-end afterKept keptStory kept-held m cs ts h
 
 pub all-dropped : (m : List ℕ) (cs : List Channel) (ts : List (Option Story)) → AllHeld m cs ts → AllHeld m (endedBy afterDropped cs) (map (mapped droppedStory) ts)
 all-dropped m cs ts h = all-end afterDropped droppedStory dropped-held m cs ts h
+
+-- A WRITE TO FREE MEMORY, outside every area in service
+abbrev pub FreeIn : ℕ → Option Service → Type 0
+FreeIn p None = Unit {0}
+FreeIn p (Some s) = inArea (s .window) p ≡ false
+
+abbrev pub FreeAll : ℕ → List Channel → Type 0
+FreeAll p [] = Unit {0}
+FreeAll p (c ∷ cs) = FreeIn p (c .service) × FreeAll p cs
+
+both-free : (m : List ℕ) (p v : ℕ) (o : Option Service) (u : Option Story) → BothHeld m o u → FreeIn p o → BothHeld (set m p v) o u
+both-free m p v None None h f = tt
+both-free m p v None (Some t) h f = h
+both-free m p v (Some s) None h f = h
+both-free m p v (Some s) (Some t) h f = write-elsewhere m s t h p v f
+
+pub all-free : (m : List ℕ) (p v : ℕ) (cs : List Channel) (ts : List (Option Story)) → AllHeld m cs ts → FreeAll p cs → AllHeld (set m p v) cs ts
+all-free m p v [] [] h f = tt
+all-free m p v [] (t ∷ ts) h f = h
+all-free m p v (c ∷ cs) [] h f = h
+all-free m p v (c ∷ cs) (t ∷ ts) h f = (both-free m p v (c .service) t (h .0) (f .0), all-free m p v cs ts (h .1) (f .1))
+
+-- AN ENABLING of channel n
+pub begun-at : (m : List ℕ) (cs : List Channel) (ts : List (Option Story)) → AllHeld m cs ts → (n : ℕ) (w : Window) → Fits (length m) w → AllHeld m (set cs n (on (begun w))) (set ts n (Some (newStory w)))
+begun-at m [] [] h n w fits = tt
+begun-at m [] (t ∷ ts) h n w fits = absurd h
+begun-at m (c ∷ cs) [] h n w fits = absurd h
+begun-at m (c ∷ cs) (t ∷ ts) h zero w fits = (begun-held m w fits, h .1)
+begun-at m (c ∷ cs) (t ∷ ts) h (suc n) w fits = (h .0, begun-at m cs ts (h .1) n w fits)
+
+disjoint-on : (w : Window) (cs : List Channel) (n : ℕ) (s : Service) → DisjointAll w cs → Disjoint w (s .window) → DisjointAll w (set cs n (on s))
+disjoint-on w [] n s d e = tt
+disjoint-on w (c ∷ cs) zero s d e = (e, d .1)
+disjoint-on w (c ∷ cs) (suc n) s d e = (d .0, disjoint-on w cs n s (d .1) e)
+
+beside-on : (o : Option Service) (cs : List Channel) (n : ℕ) (s : Service) → Beside o cs → DisjointIn (s .window) o → Beside o (set cs n (on s))
+beside-on None cs n s d e = tt
+beside-on (Some r) cs n s d e = disjoint-on (r .window) cs n s d (swap (s .window) (r .window) e)
+
+pub begun-apart : (cs : List Channel) (n : ℕ) (s : Service) → AllApart cs → DisjointAll (s .window) cs → AllApart (set cs n (on s))
+begun-apart [] n s a d = tt
+begun-apart (c ∷ cs) zero s a d = (d .1, a .1)
+begun-apart (c ∷ cs) (suc n) s a d = (beside-on (c .service) cs n s (a .0) (d .0), begun-apart cs n s (a .1) (d .1))
+
+-- THE QUESTIONS get the same facts of every channel, and every story is whole.
+both-facts : (m : List ℕ) (o : Option Service) (u : Option Story) → BothHeld m o u → mapped factsOf o ≡ mapped factsTold u
+both-facts m None None h = refl
+both-facts m None (Some t) h = absurd h
+both-facts m (Some s) None h = absurd h
+both-facts m (Some s) (Some t) h = ap Some (facts-agree m s t h)
+
+pub all-facts : (m : List ℕ) (cs : List Channel) (ts : List (Option Story)) → AllHeld m cs ts → map (λ (c : Channel). mapped factsOf (c .service)) cs ≡ map (mapped factsTold) ts
+all-facts m [] [] h = refl
+all-facts m [] (t ∷ ts) h = absurd h
+all-facts m (c ∷ cs) [] h = absurd h
+all-facts m (c ∷ cs) (t ∷ ts) h =
+    ap (λ (x : Option Facts). x ∷ map (λ (d : Channel). mapped factsOf (d .service)) cs) (both-facts m (c .service) t (h .0))
+    ∙ ap (λ (xs : List (Option Facts)). mapped factsTold t ∷ xs) (all-facts m cs ts (h .1))
+
+abbrev pub WholeIn : Option Story → Type 0
+WholeIn None = Unit {0}
+WholeIn (Some t) = Whole t
+
+abbrev pub AllWhole : List (Option Story) → Type 0
+AllWhole [] = Unit {0}
+AllWhole (t ∷ ts) = WholeIn t × AllWhole ts
+
+both-whole : (m : List ℕ) (o : Option Service) (u : Option Story) → BothHeld m o u → WholeIn u
+both-whole m None None h = tt
+both-whole m None (Some t) h = absurd h
+both-whole m (Some s) None h = absurd h
+both-whole m (Some s) (Some t) h = whole m s t h
+
+pub all-whole : (m : List ℕ) (cs : List Channel) (ts : List (Option Story)) → AllHeld m cs ts → AllWhole ts
+all-whole m [] [] h = tt
+all-whole m [] (t ∷ ts) h = absurd h
+all-whole m (c ∷ cs) [] h = absurd h
+all-whole m (c ∷ cs) (t ∷ ts) h = (both-whole m (c .service) t (h .0), all-whole m cs ts (h .1))
