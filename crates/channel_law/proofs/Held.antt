@@ -3,6 +3,7 @@ use mathlib.Core.Path.{_≡_, refl}
 use mathlib.Core.Bool.{Bool, true, false, cond, not}
 use mathlib.Core.List.{List, []}
 use Prim.Native.Nat.{ℕ, _+_, _<_, _≤_}
+use lib.Dec.{ltb}
 use lib.ListN.{length, getD}
 use Rattle.std.specs.declared.option.Option.the-variants.{Some}
 use Rattle.access.specs.declared.Side.{Side}
@@ -20,7 +21,7 @@ use Rattle.channel.specs.declared.service.Service.{Service}
 use Rattle.channel.specs.Windows.{placeIn}
 use Rattle.channel.specs.Services.{takenBy, touchedBy, closedBy, numberOf, present}
 use Rattle.channel_law.specs.Story.{Accesses, Reading, Story, takenIn, none}
-use Rattle.channel_law.specs.Law.{last, Shows, ShowsLatest, AllShow, Fits}
+use Rattle.channel_law.specs.Law.{last, Shows, ShowsLatest, AllShow, seen, Fits}
 use Rattle.channel_law.specs.Sound.{Apart}
 use Rattle.channel_law.proofs.Messages.{nth}
 
@@ -75,6 +76,18 @@ pub record Parts (m : List ℕ) (s : Service) (t : Story) : Type 0 where
   pub over : AllShow (t .written) (t .over)
   pub kind : KindHeld (s .window .kind) (extent (s .window .length) (s .writing)) (extent (s .window .length) (s .reading)) (present (s .shown)) (t .written) (t .reading .before) (t .read)
 
+-- The events are as told; a reading that the running frame has accessed has an octet.
+pub record Events (s : Service) (t : Story) : Type 0 where
+  pub by-now : seen t ≤ length (t .written)
+  pub by-then : t .opened ≤ length (t .read)
+  pub write-event : s .«write_event» ≡ ltb (seen t) (length (t .written))
+  pub read-event : s .«read_event» ≡ ltb (t .opened) (length (t .read))
+  pub some-octet : touchedBy (s .reading) ≡ true → 0 < takenIn (t .reading .fetched)
+
+pub record Both (m : List ℕ) (s : Service) (t : Story) : Type 0 where
+  pub parts : Parts m s t
+  pub events : Events s t
+
 -- The master's transaction x is as told of the running frame; the local side's, y, neither accessed nor closed by it.
 pub record FlagsOf (x y : Transaction) (u c : Bool) : Type 0 where
   pub touched : touchedBy x ≡ u
@@ -90,4 +103,5 @@ Flags Local x y u c = FlagsOf y x u c
 pub record Held (m : List ℕ) (s : Service) (t : Story) : Type 0 where
   pub same : s .window ≡ t .window
   pub parts : Parts m s t
+  pub events : Events s t
   pub flags : Flags (s .window .stores) (s .writing) (s .reading) (t .touched) (t .closed)

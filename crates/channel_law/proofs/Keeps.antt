@@ -27,8 +27,9 @@ use Rattle.channel.specs.Services.{takenBy, touchedBy, closedBy, closes, access
 use Rattle.channel_law.specs.Story.{Accesses, Story, newStory, takenIn, none, closedWriting, closedReading, messageTold, factsIn, factsTold, addStore, addFetch, noted, writingCompleted, writingCancelled, readingCompleted, readingCancelled, when, closing, completing, storedIn, fetchedIn, storedAt, fetchedAt, frameOver, keptIn, droppedIn, keptStory, droppedStory}
 use Rattle.channel_law.specs.Runs.{inArea}
 use Rattle.channel_law.specs.Law.{Fits}
-use Rattle.channel_law.proofs.Held.{extent, KindHeld, MailboxHeld, Parts, FlagsOf, Flags, Held}
-use Rattle.channel_law.proofs.Steps.{extent-open, writingExtent, readingExtent, stored, writing-completes, fetched-if, reading-completes, writing-cancelled, reading-cancelled, frame-left, frame-over, frame-noted, Agree, elsewhere-held}
+use Rattle.channel_law.proofs.Held.{extent, KindHeld, MailboxHeld, Both, FlagsOf, Flags, Held}
+use Rattle.channel_law.proofs.Steps.{extent-open, writingExtent, readingExtent, Agree, elsewhere-held}
+use Rattle.channel_law.proofs.Events.{stored-both, fetched-both, writing-completes-both, reading-completes-both, writing-cancelled-both, reading-cancelled-both, frame-left-both, frame-over-both, frame-noted-both}
 use Rattle.channel_law.proofs.Places.{place-from, place-below, place-exists}
 use Rattle.channel_law.proofs.Asked.{Allowed, allowed, opens-write, opens-read, side-writes, side-reads}
 
@@ -56,6 +57,7 @@ begun-held m w fits =
         over = tt;
         kind = begun-kind (w .kind);
       };
+      events = record { by-now = omega arith; by-then = omega arith; write-event = refl; read-event = refl; some-octet = λ e. absurd (false≢true e) };
       flags = begun-flags (w .stores);
     }
 
@@ -88,7 +90,7 @@ mailbox-told : (e d : ℕ) (p : Bool) (ws : List Accesses) (b : ℕ) (rs : List 
 mailbox-told e d true ws b rs h = let c = h .counts in sym (lt-ltb (length rs) (length ws) (omega arith))
 mailbox-told e d false ws b rs h = let c = h .counts in sym (le-ltb (length rs) (length ws) (omega arith))
 
-message-told : (q : Kind) (e d : ℕ) (p : Bool) (t : Story) → KindHeld q e d p (t .written) (t .reading .before) (t .read) → p ≡ messageTold q t
+pub message-told : (q : Kind) (e d : ℕ) (p : Bool) (t : Story) → KindHeld q e d p (t .written) (t .reading .before) (t .read) → p ≡ messageTold q t
 message-told Buffered e d p t h = h
 message-told Mailbox e d p t h = mailbox-told e d p (t .written) (t .reading .before) (t .read) h
 
@@ -124,12 +126,15 @@ at-once-closes Master side x k c e = absurd (false≢true e)
 at-once-closes Local side x k true e = refl
 at-once-closes Local side x k false e = absurd (false≢true e)
 
-finish-writing : (m : List ℕ) (b : Bool) (s : Service) (t : Story) → (b ≡ true → closedBy (s .writing) ≡ true) → Parts m s t → Parts m (writingDoneIf b s) (when b writingCompleted t)
-finish-writing m true s t was i = writing-completes m s t i (was refl)
+both-of : (m : List ℕ) (s : Service) (t : Story) → Held m s t → Both m s t
+both-of m s t h = record { parts = h .parts; events = h .events }
+
+finish-writing : (m : List ℕ) (b : Bool) (s : Service) (t : Story) → (b ≡ true → closedBy (s .writing) ≡ true) → Both m s t → Both m (writingDoneIf b s) (when b writingCompleted t)
+finish-writing m true s t was i = writing-completes-both m s t i (was refl)
 finish-writing m false s t was i = i
 
-finish-reading : (m : List ℕ) (b : Bool) (s : Service) (t : Story) → (b ≡ true → closedBy (s .reading) ≡ true) → Parts m s t → Parts m (readingDoneIf b s) (when b readingCompleted t)
-finish-reading m true s t was i = reading-completes m s t i (was refl)
+finish-reading : (m : List ℕ) (b : Bool) (s : Service) (t : Story) → (b ≡ true → closedBy (s .reading) ≡ true) → Both m s t → Both m (readingDoneIf b s) (when b readingCompleted t)
+finish-reading m true s t was i = reading-completes-both m s t i (was refl)
 finish-reading m false s t was i = i
 
 -- the window stays
@@ -187,12 +192,14 @@ store-held m s t h side k v j e =
     let who = side-writes side p (a .right-side) in
     let more = writing-open p (s .writing) (s .reading) (t .touched) (t .closed) (h .flags) (subst (λ (z : Side). (isMaster z && (closedBy (s .writing) || closedBy (s .reading))) ≡ false) who (a .not-closed)) in
     let free = not-full (s .window .kind) (writingExtent s) (readingExtent s) (present (s .shown)) (t .written) (t .reading .before) (t .read) (takenBy (s .writing)) (i .kind) (extent-open (s .window .length) (s .writing) more) (λ z. opens-write (s .window .kind) (present (s .shown)) k j (a .may-open z)) in
-    let one : Parts (set m (storePlace s k) v) (withStore s k) (addStore t k v) = stored m s t i k v (a .not-ahead) more free in
-    let two : Parts (set m (storePlace s k) v) (withStore s k) (noted p c (addStore t k v)) = frame-noted (set m (storePlace s k) v) (withStore s k) (addStore t k v) one p c in
+    let one : Both (set m (storePlace s k) v) (withStore s k) (addStore t k v) = stored-both m s t (both-of m s t h) k v (a .not-ahead) more free in
+    let two : Both (set m (storePlace s k) v) (withStore s k) (noted p c (addStore t k v)) = frame-noted-both (set m (storePlace s k) v) (withStore s k) (addStore t k v) one p c in
+    let three : Both (set m (storePlace s k) v) (afterStore s k) (when (atOnce p c) writingCompleted (noted p c (addStore t k v))) = finish-writing (set m (storePlace s k) v) (atOnce p c) (withStore s k) (noted p c (addStore t k v)) (at-once-closes p p (s .writing) k c) two in
     let all : Held (set m (storePlace s k) v) (afterStore s k) (when (atOnce p c) writingCompleted (noted p c (addStore t k v))) =
     record {
       same = sym (window-writing (atOnce p c) (withStore s k)) ∙ (h .same ∙ sym (window-when (atOnce p c) writingCompleted (λ _. refl) (noted p c (addStore t k v)) ∙ window-noted p c (addStore t k v)));
-      parts = finish-writing (set m (storePlace s k) v) (atOnce p c) (withStore s k) (noted p c (addStore t k v)) (at-once-closes p p (s .writing) k c) two;
+      parts = three .parts;
+      events = three .events;
       flags = subst (λ (w : Window). Flags (w .stores) (afterStore s k .writing) (afterStore s k .reading) (when (atOnce p c) writingCompleted (noted p c (addStore t k v)) .touched) (when (atOnce p c) writingCompleted (noted p c (addStore t k v)) .closed)) (window-writing (atOnce p c) (withStore s k))
           (flags-store p c (withStore s k) (addStore t k v) (s .writing) k refl (h .flags));
     } in
@@ -207,17 +214,19 @@ fetchedBy m s o k = getD m (placeIn (s .window) (numberOf (openedIf o s .roles .
 
 -- a fetch whose transaction r has noted: it completes at once, or waits, or stays open
 fetch-finish : (m : List ℕ) (s : Service) (t : Story) → Held m s t → (k v : ℕ) (r : Service) → k < s .window .length → r .window ≡ s .window → r .writing ≡ s .writing →
-    r .reading ≡ accessed (otherSide (s .window .stores)) (s .reading) k (closes (s .window) k) → Parts m r (addFetch t k v) →
+    r .reading ≡ accessed (otherSide (s .window .stores)) (s .reading) k (closes (s .window) k) → Both m r (addFetch t k v) →
     Held m (readingDoneIf (atOnce (otherSide (s .window .stores)) (closes (s .window) k)) r) (fetchedAt k v t)
 fetch-finish m s t h k v r kl same-window same-writing is i =
     let p = s .window .stores in
     let c = closes (s .window) k in
     let b = atOnce (otherSide p) c in
-    let two : Parts m r (noted (otherSide p) c (addFetch t k v)) = frame-noted m r (addFetch t k v) i (otherSide p) c in
+    let two : Both m r (noted (otherSide p) c (addFetch t k v)) = frame-noted-both m r (addFetch t k v) i (otherSide p) c in
+    let three : Both m (readingDoneIf b r) (when b readingCompleted (noted (otherSide p) c (addFetch t k v))) = finish-reading m b r (noted (otherSide p) c (addFetch t k v)) (λ z. ap closedBy is ∙ at-once-closes (otherSide p) (otherSide p) (s .reading) k c z) two in
     let all : Held m (readingDoneIf b r) (when b readingCompleted (noted (otherSide p) c (addFetch t k v))) =
     record {
       same = sym (window-reading b r) ∙ (same-window ∙ (h .same ∙ sym (window-when b readingCompleted (λ _. refl) (noted (otherSide p) c (addFetch t k v)) ∙ window-noted (otherSide p) c (addFetch t k v))));
-      parts = finish-reading m b r (noted (otherSide p) c (addFetch t k v)) (λ z. ap closedBy is ∙ at-once-closes (otherSide p) (otherSide p) (s .reading) k c z) two;
+      parts = three .parts;
+      events = three .events;
       flags = subst (λ (w : Window). Flags (w .stores) (readingDoneIf b r .writing) (readingDoneIf b r .reading) (when b readingCompleted (noted (otherSide p) c (addFetch t k v)) .touched) (when b readingCompleted (noted (otherSide p) c (addFetch t k v)) .closed)) (sym same-window ∙ window-reading b r)
           (flags-fetch p c r (addFetch t k v) (s .reading) k is (subst (λ (x : Transaction). Flags p x (s .reading) (t .touched) (t .closed)) (sym same-writing) (h .flags)));
     } in
@@ -226,7 +235,7 @@ fetch-finish m s t h k v r kl same-window same-writing is i =
           subst (λ (z : Bool). Held m (readingDoneIf b r) (when z readingCompleted (noted (otherSide p) (closing (s .window) k) (addFetch t k v)))) (at-once-told (otherSide p) (closing (s .window) k)) last in
     subst (λ (w : Window). Held m (readingDoneIf b r) (fetchedIn w k v t)) (h .same) told
 
-fetch-by : (m : List ℕ) (s : Service) (t : Story) → Held m s t → (k : ℕ) → k < s .window .length → (o : Bool) → Parts m (withFetch (openedIf o s) k) (addFetch t k (fetchedBy m s o k)) →
+fetch-by : (m : List ℕ) (s : Service) (t : Story) → Held m s t → (k : ℕ) → k < s .window .length → (o : Bool) → Both m (withFetch (openedIf o s) k) (addFetch t k (fetchedBy m s o k)) →
     Held m (readingDoneIf (atOnce (otherSide (s .window .stores)) (closes (s .window) k)) (withFetch (openedIf o s) k)) (fetchedAt k (fetchedBy m s o k) t)
 fetch-by m s t h k kl true i = fetch-finish m s t h k (fetchedBy m s true k) (withFetch (openedIf true s) k) kl refl refl refl i
 fetch-by m s t h k kl false i = fetch-finish m s t h k (fetchedBy m s false k) (withFetch (openedIf false s) k) kl refl refl refl i
@@ -238,7 +247,7 @@ fetch-held m s t h side k j e =
     let a = allowed (factsOf s) side Read k j e in
     let who = side-reads side p (a .right-side) in
     let more = reading-open p (s .writing) (s .reading) (t .touched) (t .closed) (h .flags) (subst (λ (z : Side). (isMaster z && (closedBy (s .writing) || closedBy (s .reading))) ≡ false) who (a .not-closed)) in
-    let one = fetched-if m s t i k (a .not-ahead) more (λ z. opens-read (s .window .kind) (present (s .shown)) k j (a .may-open z)) (eqb (takenBy (s .reading)) 0) refl in
+    let one = fetched-both m s t (both-of m s t h) k (a .not-ahead) more (λ z. opens-read (s .window .kind) (present (s .shown)) k j (a .may-open z)) (eqb (takenBy (s .reading)) 0) refl in
     fetch-by m s t h k (a .in-window) (eqb (takenBy (s .reading)) 0) one
 
 -- A FRAME'S END
@@ -293,18 +302,18 @@ window-completed s b c = window-writing b s ∙ window-reading c (writingDoneIf 
 
 -- a frame's end as it is told, from the service's own record of it
 kept-told : (m : List ℕ) (s : Service) (t : Story) (p : Side) (x y : Transaction) → Flags p x y (t .touched) (t .closed) →
-    Parts m s (frameOver (when (closedBy y) readingCompleted (when (closedBy x) writingCompleted t))) → Parts m s (keptIn p t)
+    Both m s (frameOver (when (closedBy y) readingCompleted (when (closedBy x) writingCompleted t))) → Both m s (keptIn p t)
 kept-told m s t Master x y f i =
-    subst₂ (λ (b c : Bool). Parts m s (frameOver (when c readingCompleted (when b writingCompleted t)))) (f .closed) (f .local-closed) i
+    subst₂ (λ (b c : Bool). Both m s (frameOver (when c readingCompleted (when b writingCompleted t)))) (f .closed) (f .local-closed) i
 kept-told m s t Local x y f i =
-    subst₂ (λ (b c : Bool). Parts m s (frameOver (when c readingCompleted (when b writingCompleted t)))) (f .local-closed) (f .closed) i
+    subst₂ (λ (b c : Bool). Both m s (frameOver (when c readingCompleted (when b writingCompleted t)))) (f .local-closed) (f .closed) i
 
 dropped-told : (m : List ℕ) (s : Service) (t : Story) (p : Side) (x y : Transaction) → Flags p x y (t .touched) (t .closed) →
-    Parts m s (frameOver (when (touchedBy y) readingCancelled (when (touchedBy x) writingCancelled t))) → Parts m s (droppedIn p t)
+    Both m s (frameOver (when (touchedBy y) readingCancelled (when (touchedBy x) writingCancelled t))) → Both m s (droppedIn p t)
 dropped-told m s t Master x y f i =
-    subst₂ (λ (b c : Bool). Parts m s (frameOver (when c readingCancelled (when b writingCancelled t)))) (f .touched) (f .local-touched) i
+    subst₂ (λ (b c : Bool). Both m s (frameOver (when c readingCancelled (when b writingCancelled t)))) (f .touched) (f .local-touched) i
 dropped-told m s t Local x y f i =
-    subst₂ (λ (b c : Bool). Parts m s (frameOver (when c readingCancelled (when b writingCancelled t)))) (f .local-touched) (f .touched) i
+    subst₂ (λ (b c : Bool). Both m s (frameOver (when c readingCancelled (when b writingCancelled t)))) (f .local-touched) (f .touched) i
 
 -- the story of a frame's end notes nothing of a running frame, and keeps the window
 pub record Over (t t′ : Story) : Type 0 where
@@ -320,21 +329,22 @@ over-dropped : (p : Side) (t : Story) → Over t (droppedIn p t)
 over-dropped Master t = record { touched = refl; closed = refl; window = window-when (t .touched) writingCancelled (λ _. refl) t }
 over-dropped Local t = record { touched = refl; closed = refl; window = window-when (t .touched) readingCancelled (λ _. refl) t }
 
-over-held : (m : List ℕ) (s r : Service) (t t′ : Story) → s .window ≡ t .window → s .window ≡ r .window → Over t t′ → Parts m r t′ → Flags (r .window .stores) (r .writing) (r .reading) false false → Held m r t′
+over-held : (m : List ℕ) (s r : Service) (t t′ : Story) → s .window ≡ t .window → s .window ≡ r .window → Over t t′ → Both m r t′ → Flags (r .window .stores) (r .writing) (r .reading) false false → Held m r t′
 over-held m s r t t′ same stays o i f =
     record {
       same = sym stays ∙ (same ∙ sym (o .window));
-      parts = i;
+      parts = i .parts;
+      events = i .events;
       flags = subst₂ (λ (u c : Bool). Flags (r .window .stores) (r .writing) (r .reading) u c) (sym (o .touched)) (sym (o .closed)) f;
     }
 
 pub kept-held : (m : List ℕ) (s : Service) (t : Story) → Held m s t → Held m (afterKept s) (keptStory t)
 kept-held m s t h =
     let b = closedBy (s .writing) in let c = closedBy (s .reading) in
-    let one : Parts m (writingDoneIf b s) (when b writingCompleted t) = finish-writing m b s t (λ z. z) (h .parts) in
-    let two : Parts m (completed s b c) (when c readingCompleted (when b writingCompleted t)) = finish-reading m c (writingDoneIf b s) (when b writingCompleted t) (reading-waits s b) one in
-    let three : Parts m (afterKept s) (when c readingCompleted (when b writingCompleted t)) = frame-left m (completed s b c) _ two (writing-free s b c refl) (reading-free s b c refl) in
-    let four : Parts m (afterKept s) (keptIn (s .window .stores) t) = kept-told m (afterKept s) t (s .window .stores) (s .writing) (s .reading) (h .flags) (frame-over m (afterKept s) _ three) in
+    let one : Both m (writingDoneIf b s) (when b writingCompleted t) = finish-writing m b s t (λ z. z) (both-of m s t h) in
+    let two : Both m (completed s b c) (when c readingCompleted (when b writingCompleted t)) = finish-reading m c (writingDoneIf b s) (when b writingCompleted t) (reading-waits s b) one in
+    let three : Both m (afterKept s) (when c readingCompleted (when b writingCompleted t)) = frame-left-both m (completed s b c) _ two (writing-free s b c refl) (reading-free s b c refl) in
+    let four : Both m (afterKept s) (keptIn (s .window .stores) t) = kept-told m (afterKept s) t (s .window .stores) (s .writing) (s .reading) (h .flags) (frame-over-both m (afterKept s) _ three) in
     let all : Held m (afterKept s) (keptIn (s .window .stores) t) =
     over-held m s (afterKept s) t (keptIn (s .window .stores) t) (h .same) (window-completed s b c) (over-kept (s .window .stores) t) four
     (flags-over _ _ _ (left-touched (completed s b c .writing)) (left-closed (completed s b c .writing)) (left-touched (completed s b c .reading)) (left-closed (completed s b c .reading))) in
@@ -343,9 +353,9 @@ kept-held m s t h =
 pub dropped-held : (m : List ℕ) (s : Service) (t : Story) → Held m s t → Held m (afterDropped s) (droppedStory t)
 dropped-held m s t h =
     let b = touchedBy (s .writing) in let c = touchedBy (s .reading) in
-    let one = writing-cancelled m s t (h .parts) b in
-    let two : Parts m (afterDropped s) (when c readingCancelled (when b writingCancelled t)) = reading-cancelled m _ (when b writingCancelled t) one c in
-    let three : Parts m (afterDropped s) (droppedIn (s .window .stores) t) = dropped-told m (afterDropped s) t (s .window .stores) (s .writing) (s .reading) (h .flags) (frame-over m (afterDropped s) _ two) in
+    let one = writing-cancelled-both m s t (both-of m s t h) b in
+    let two : Both m (afterDropped s) (when c readingCancelled (when b writingCancelled t)) = reading-cancelled-both m _ (when b writingCancelled t) one c (λ z. z) in
+    let three : Both m (afterDropped s) (droppedIn (s .window .stores) t) = dropped-told m (afterDropped s) t (s .window .stores) (s .writing) (s .reading) (h .flags) (frame-over-both m (afterDropped s) _ two) in
     let all : Held m (afterDropped s) (droppedIn (s .window .stores) t) =
     over-held m s (afterDropped s) t (droppedIn (s .window .stores) t) (h .same) refl (over-dropped (s .window .stores) t) three
     (flags-over _ _ _ (cancelled-touched (s .writing)) (cancelled-closed (s .writing)) (cancelled-touched (s .reading)) (cancelled-closed (s .reading))) in
@@ -353,7 +363,7 @@ dropped-held m s t h =
 
 -- A CHANGE OF THE MEMORY outside the area
 pub memory-held : (m n : List ℕ) (s : Service) (t : Story) → Held m s t → length n ≡ length m → Agree (s .window) m n → Held n s t
-memory-held m n s t h long agree = record { same = h .same; parts = elsewhere-held m n s t (h .parts) long agree; flags = h .flags }
+memory-held m n s t h long agree = record { same = h .same; parts = elsewhere-held m n s t (h .parts) long agree; events = h .events; flags = h .flags }
 
 pub write-elsewhere : (m : List ℕ) (s : Service) (t : Story) → Held m s t → (p v : ℕ) → inArea (s .window) p ≡ false → Held (set m p v) s t
 write-elsewhere m s t h p v e =

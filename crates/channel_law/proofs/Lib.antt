@@ -2,6 +2,7 @@ pub mod Places
 pub mod Messages
 pub mod Held
 pub mod Steps
+pub mod Events
 pub mod Asked
 pub mod Keeps
 pub mod Whole

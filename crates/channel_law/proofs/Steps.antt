@@ -185,6 +185,7 @@ numbered t = record {
   over = t .over;
   reading = record { before = beforeThis (t .reading .before) (length (t .written)) (t .reading .fetched); fetched = t .reading .fetched };
   read = t .read;
+  opened = t .opened;
   touched = t .touched;
   closed = t .closed;
 }
@@ -305,6 +306,7 @@ taking t k v = record {
   over = t .over;
   reading = record { before = t .reading .before; fetched = (k, v) ∷ t .reading .fetched };
   read = t .read;
+  opened = t .opened;
   touched = t .touched;
   closed = t .closed;
 }
@@ -425,10 +427,10 @@ module _ (m : List ℕ) (s : Service) (t : Story) (i : Parts m s t) where
   kind⁷ Buffered e d p ws b rs h = h
   kind⁷ Mailbox e d p ws b rs h = record { counts = h .counts; quiet = λ _. refl; busy = h .busy; in-order = h .in-order }
 
-  abbrev with-writing : Transaction → Service
+  abbrev pub with-writing : Transaction → Service
   with-writing x = record { window = s .window; writing = x; reading = s .reading; roles = s .roles; shown = s .shown; «write_event» = s .«write_event»; «read_event» = s .«read_event» }
 
-  abbrev with-reading : Transaction → Service
+  abbrev pub with-reading : Transaction → Service
   with-reading x = record { window = s .window; writing = s .writing; reading = x; roles = s .roles; shown = s .shown; «write_event» = s .«write_event»; «read_event» = s .«read_event» }
 
   -- a writing is cancelled, or goes on

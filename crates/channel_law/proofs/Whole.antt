@@ -3,11 +3,11 @@ use mathlib.Core.Path.{_≡_, refl, sym, ap, subst, _∙_}
 use mathlib.Core.Logic.{_⊎_, inl, inr, ⊎-elim}
 use mathlib.Core.List.{List, [], _∷_}
 use mathlib.Core.Bool.{Bool, true, false, cond, not, _&&_, _||_}
-use Prim.Native.Nat.{ℕ, suc, _+_, _<_, _≤_}
+use Prim.Native.Nat.{ℕ, suc, _+_, _*_, _<_, _≤_}
 use native.Mathlib.Omega.{arith}
 use lib.Dec.{eqb, leb}
 use lib.ListN.{length, getD, set}
-use Rattle.std.proofs.shelf.Tests.{le-leb, lt-leb, eqb-true, eqb-false, cond-false, not-from-true, true≢false, false≢true, cases-bool}
+use Rattle.std.proofs.shelf.Tests.{le-leb, lt-leb, eqb-true, eqb-false, ne-eqb, cond-false, not-from-true, true≢false, false≢true, cases-bool}
 use Rattle.std.specs.declared.result.Result.{Result}
 use Rattle.std.specs.declared.result.Result.the-variants.{Ok, Err}
 use Rattle.access.specs.declared.Side.{Side}
@@ -19,18 +19,23 @@ use Rattle.channel.specs.declared.setting.Window.{Window}
 use Rattle.channel.specs.declared.facts.Facts.{Facts}
 use Rattle.channel.specs.declared.facts.Refusal.{Refusal}
 use Rattle.channel.specs.declared.facts.Refusal.the-variants.{OutsideWindow, WrongSide, AlreadyClosed, OutOfTurn, NothingWritten}
+use Rattle.channel.specs.declared.service.Roles.{Roles}
+use Rattle.channel.specs.declared.service.Shown.{Shown}
+use Rattle.channel.specs.declared.service.Shown.the-variants.{Nothing, Ready, Fetch}
 use Rattle.channel.specs.declared.service.Service.{Service}
+use Rattle.channel.specs.Settings.{bit}
 use Rattle.channel.specs.Facts.{isMaster, sameSide, rightWay, takenOf, opens, turn, asked}
-use Rattle.channel.specs.Services.{takenBy, closedBy, present, otherSide, factsOf, fetchPlace}
+use Rattle.channel.specs.Services.{takenBy, closedBy, present, otherSide, factsOf, fetchPlace, shownNumber, kindBits, statusOf}
 use Rattle.channel_law.specs.Story.{Accesses, Story, newStory, takenIn, none, closedWriting, closedReading, messageTold, factsTold}
 use Rattle.channel_law.specs.Runs.{Call, write, read, kept, dropped, elsewhere, Answer, done, got, refused, State, first, inArea, afterWrite, afterRead, step, answerTo, answer, run, history, toldWrite, toldRead, note, tell}
-use Rattle.channel_law.specs.Law.{Shows, ShowsLatest, AllShow, InOrder, WholeOf, Whole, bare, due, InTurn, failed, reason, RefusedRightly, InWords, Answered, EachAnswered, Taken, Alone, Fits, Promise, Messages-are-whole}
+use Rattle.channel_law.specs.Law.{Shows, ShowsLatest, AllShow, InOrder, WholeOf, Whole, bare, due, InTurn, failed, reason, RefusedRightly, InWords, Answered, EachAnswered, StatusOf, Status, Taken, Alone, Fits, Promise, Messages-are-whole}
 use Rattle.channel_law.specs.Sound.{Sound}
+use Rattle.channel_law.proofs.Places.{number-below}
 use Rattle.channel_law.proofs.Messages.{latest-some}
 use Rattle.channel_law.proofs.Held.{MailboxHeld, KindHeld, Held}
 use Rattle.channel_law.proofs.Steps.{writingExtent, readingExtent}
 use Rattle.channel_law.proofs.Asked.{allowed, side-writes, side-reads}
-use Rattle.channel_law.proofs.Keeps.{begun-held, facts-agree, store-held, fetch-held, kept-held, dropped-held, write-elsewhere, store-elsewhere}
+use Rattle.channel_law.proofs.Keeps.{begun-held, message-told, facts-agree, store-held, fetch-held, kept-held, dropped-held, write-elsewhere, store-elsewhere}
 
 -- EVERY CALL keeps the invariant.
 write-kept : (S : State) (t : Story) → Held (S .octets) (S .service) t → (side : Side) (k v : ℕ) (r : Result ℕ Refusal) → asked (factsOf (S .service)) side Write k ≡ r →
@@ -79,6 +84,32 @@ taken-written m s t h j l = let e = h .parts .writing .taken in (_, h .parts .wr
 
 pub taken-read : (m : List ℕ) (s : Service) (t : Story) → Held m s t → Taken (t .reading .fetched)
 taken-read m s t h j l = let e = h .parts .reading .taken in h .parts .reading .accessed′ j (omega arith)
+
+-- THE STATUS OCTET is as told.
+shown-number : (r : Roles) (x : Shown) → (shownNumber r x ≤ 3) × (eqb (shownNumber r x) 3 ≡ not (present x))
+shown-number r Nothing = (omega arith, refl)
+shown-number r Ready = let b = number-below (r .ready) in (omega arith, ne-eqb _ 3 (λ z. omega arith))
+shown-number r Fetch = let b = number-below (r .fetch) in (omega arith, ne-eqb _ 3 (λ z. omega arith))
+
+not-not : (b : Bool) → not (not b) ≡ b
+not-not true = refl
+not-not false = refl
+
+status-of : (m : List ℕ) (s : Service) (t : Story) → Held m s t → (q : Kind) → present (s .shown) ≡ messageTold q t → StatusOf q (bit (s .«write_event») + 2 * bit (s .«read_event») + kindBits q s) t
+status-of m s t h Mailbox p =
+    let e = h .events in
+    let a = ap bit (e .write-event) in let b = ap bit (e .read-event) in let c = ap bit p in
+    omega arith
+status-of m s t h Buffered p =
+    let e = h .events in
+    let a = ap bit (e .write-event) in let b = ap bit (e .read-event) in
+    let n = shown-number (s .roles) (s .shown) in
+    (shownNumber (s .roles) (s .shown), (omega arith, n .0, n .1 ∙ (ap not p ∙ not-not (none (t .written)))))
+
+pub status : (m : List ℕ) (s : Service) (t : Story) → Held m s t → Status (statusOf s) t
+status m s t h =
+    subst (λ (w : Window). StatusOf (w .kind) (statusOf s) t) (h .same)
+    (status-of m s t h (s .window .kind) (message-told (s .window .kind) (writingExtent s) (readingExtent s) (present (s .shown)) t (h .parts .kind)))
 
 alone-if : (S : State) (t : Story) → HeldIn S t → (side : Side) (k v p : ℕ) (r : Result ℕ Refusal) → asked (factsOf (S .service)) side Write k ≡ r → inArea (S .service .window) p ≡ false → getD (afterWrite S k v r .octets) p 0 ≡ getD (S .octets) p 0
 alone-if S t h side k v p (Ok j) e out = store-elsewhere (S .octets) (S .service) t h k v p (allowed (factsOf (S .service)) side Write k j e .in-window) out
@@ -186,4 +217,4 @@ pub law : Messages-are-whole
 law w m fits cs =
     let begin = begun-held m w fits in
     let end = always (first w m) (newStory w) begin cs in
-    record { whole = whole _ _ _ end; answered = each (first w m) (newStory w) begin cs; writing-taken = taken-written _ _ _ end; reading-taken = taken-read _ _ _ end; alone = alone _ _ end; sound = sound _ _ _ end }
+    record { whole = whole _ _ _ end; answered = each (first w m) (newStory w) begin cs; writing-taken = taken-written _ _ _ end; reading-taken = taken-read _ _ _ end; status = status _ _ _ end; alone = alone _ _ end; sound = sound _ _ _ end }

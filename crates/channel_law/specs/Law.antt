@@ -3,8 +3,8 @@ use mathlib.Core.Path.{_≡_}
 use mathlib.Core.Logic.{_⊎_}
 use mathlib.Core.Bool.{Bool, true, false, cond, _||_}
 use mathlib.Core.List.{List, [], _∷_}
-use Prim.Native.Nat.{ℕ, suc, _-_, _<_, _≤_}
-use lib.Dec.{eqb}
+use Prim.Native.Nat.{ℕ, suc, _+_, _-_, _*_, _<_, _≤_}
+use lib.Dec.{eqb, ltb}
 use lib.ListN.{length, getD}
 use Rattle.std.specs.declared.option.Option.{Option}
 use Rattle.std.specs.declared.option.Option.the-variants.{Some, None}
@@ -17,8 +17,10 @@ use Rattle.channel.specs.declared.setting.Window.{Window}
 use Rattle.channel.specs.declared.facts.Facts.{Facts}
 use Rattle.channel.specs.Facts.{rightWay, takenOf, asked}
 use Rattle.channel.specs.Windows.{inMemory}
+use Rattle.channel.specs.Settings.{bit}
+use Rattle.channel.specs.Services.{statusOf}
 use Rattle.channel_law.specs.Sound.{Sound}
-use Rattle.channel_law.specs.Story.{Accesses, Reading, Story, newStory, takenIn, none, closedWriting, closedReading, factsTold}
+use Rattle.channel_law.specs.Story.{Accesses, Reading, Story, newStory, takenIn, none, closedWriting, closedReading, messageTold, factsTold}
 use Rattle.channel_law.specs.Runs.{Call, write, read, kept, dropped, elsewhere, Answer, done, got, refused, State, first, inArea, step, answerTo, run, history, note, tell}
 
 -- MESSAGES. The octet last stored at an offset; a reading shows a message if each octet fetched in it is the message's there.
@@ -100,6 +102,30 @@ abbrev pub EachAnswered : Story → List (Call × Answer) → Type 0
 EachAnswered t [] = Unit {0}
 EachAnswered t (e ∷ es) = Answered t (e .0) (e .1) × EachAnswered (note t (e .0) (e .1)) es
 
+-- STATUS. How many writings were completed when the latest reading opened, and the events: a writing has been completed since the latest
+-- reading opened; a reading has been completed since the latest writing opened.
+abbrev pub latestOver : List Reading → ℕ
+latestOver [] = 0
+latestOver (r ∷ rs) = r .before
+
+abbrev pub seenBy : (before : ℕ) → Accesses → List Reading → ℕ
+seenBy n [] rs = latestOver rs
+seenBy n (x ∷ xs) rs = n
+
+abbrev pub seen : Story → ℕ
+seen t = seenBy (t .reading .before) (t .reading .fetched) (t .over)
+
+abbrev pub events : Story → ℕ
+events t = bit (ltb (seen t) (length (t .written))) + 2 * bit (ltb (t .opened) (length (t .read)))
+
+-- A mailbox tells besides whether it is full, a buffered channel the number of a buffer, 3 as long as no writing is completed.
+abbrev pub StatusOf : Kind → (octet : ℕ) → Story → Type 0
+StatusOf Mailbox o t = o ≡ events t + 8 * bit (messageTold Mailbox t)
+StatusOf Buffered o t = (n : ℕ) × ((o ≡ events t + 16 * n) × (n ≤ 3) × (eqb n 3 ≡ none (t .written)))
+
+abbrev pub Status : (octet : ℕ) → Story → Type 0
+Status o t = StatusOf (t .window .kind) o t
+
 -- TURNS. Each offset below the number taken was accessed.
 abbrev pub Taken : Accesses → Type 0
 Taken xs = (j : ℕ) → j < takenIn xs → (v : ℕ) × (last xs j ≡ Some v)
@@ -118,6 +144,7 @@ pub record Promise (w : Window) (m : List ℕ) (cs : List Call) : Type 0 where
   pub answered : EachAnswered (newStory w) (history (first w m) cs)
   pub writing-taken : Taken (tell (newStory w) (history (first w m) cs) .writing)
   pub reading-taken : Taken (tell (newStory w) (history (first w m) cs) .reading .fetched)
+  pub status : Status (statusOf (run (first w m) cs .service)) (tell (newStory w) (history (first w m) cs))
   pub alone : Alone (run (first w m) cs)
   pub sound : Sound (run (first w m) cs .service)
 

@@ -24,8 +24,8 @@ pub record Reading : Type 0 where
   pub fetched : Accesses
 
 -- One service from its enabling on: the completed writings, oldest first, and the one that is open or waits; the readings that are over,
--- completed or cancelled, and the one that is open or waits; the completed readings, oldest first; has the running frame accessed the
--- master's transaction that is open or waits, and has it closed it.
+-- completed or cancelled, the latest first, and the one that is open or waits; the completed readings, oldest first; how many readings were
+-- completed when the latest writing opened; has the running frame accessed the master's transaction that is open or waits, and has it closed it.
 pub record Story : Type 0 where
   pub window : Window
   pub written : List Accesses
@@ -33,6 +33,7 @@ pub record Story : Type 0 where
   pub over : List Reading
   pub reading : Reading
   pub read : List Accesses
+  pub opened : ℕ
   pub touched : Bool
   pub closed : Bool
 
@@ -40,7 +41,7 @@ abbrev pub noReading : Reading
 noReading = record { before = 0; fetched = [] }
 
 abbrev pub newStory : Window → Story
-newStory w = record { window = w; written = []; writing = []; over = []; reading = noReading; read = []; touched = false; closed = false }
+newStory w = record { window = w; written = []; writing = []; over = []; reading = noReading; read = []; opened = 0; touched = false; closed = false }
 
 -- FACTS. The octets taken: offsets below were each accessed.
 abbrev pub takenIn : Accesses → ℕ
@@ -76,37 +77,38 @@ factsIn w t =
 abbrev pub factsTold : Story → Facts
 factsTold t = factsIn (t .window) t
 
--- A DONE ACCESS. A reading opens with its first octet.
-abbrev pub addStore : Story → (k v : ℕ) → Story
-addStore t k v = record { window = t .window; written = t .written; writing = (k, v) ∷ t .writing; over = t .over; reading = t .reading; read = t .read; touched = t .touched; closed = t .closed }
-
+-- A DONE ACCESS. A transaction opens with its first octet.
+-- a count, from when the transaction opened on
 abbrev pub beforeThis : (before now : ℕ) → Accesses → ℕ
 beforeThis n now [] = now
 beforeThis n now (x ∷ xs) = n
+
+abbrev pub addStore : Story → (k v : ℕ) → Story
+addStore t k v = record { window = t .window; written = t .written; writing = (k, v) ∷ t .writing; over = t .over; reading = t .reading; read = t .read; opened = beforeThis (t .opened) (length (t .read)) (t .writing); touched = t .touched; closed = t .closed }
 
 abbrev pub fetchedMore : (now : ℕ) → Reading → (k v : ℕ) → Reading
 fetchedMore now r k v = record { before = beforeThis (r .before) now (r .fetched); fetched = (k, v) ∷ r .fetched }
 
 abbrev pub addFetch : Story → (k v : ℕ) → Story
-addFetch t k v = record { window = t .window; written = t .written; writing = t .writing; over = t .over; reading = fetchedMore (length (t .written)) (t .reading) k v; read = t .read; touched = t .touched; closed = t .closed }
+addFetch t k v = record { window = t .window; written = t .written; writing = t .writing; over = t .over; reading = fetchedMore (length (t .written)) (t .reading) k v; read = t .read; opened = t .opened; touched = t .touched; closed = t .closed }
 
 -- what the running frame did, if the access is the master's
 abbrev pub noted : Side → (closing : Bool) → Story → Story
-noted Master c t = record { window = t .window; written = t .written; writing = t .writing; over = t .over; reading = t .reading; read = t .read; touched = true; closed = c }
+noted Master c t = record { window = t .window; written = t .written; writing = t .writing; over = t .over; reading = t .reading; read = t .read; opened = t .opened; touched = true; closed = c }
 noted Local c t = t
 
 -- THE END of a writing and of a reading
 abbrev pub writingCompleted : Story → Story
-writingCompleted t = record { window = t .window; written = t .written ++ (t .writing ∷ []); writing = []; over = t .over; reading = t .reading; read = t .read; touched = t .touched; closed = t .closed }
+writingCompleted t = record { window = t .window; written = t .written ++ (t .writing ∷ []); writing = []; over = t .over; reading = t .reading; read = t .read; opened = t .opened; touched = t .touched; closed = t .closed }
 
 abbrev pub writingCancelled : Story → Story
-writingCancelled t = record { window = t .window; written = t .written; writing = []; over = t .over; reading = t .reading; read = t .read; touched = t .touched; closed = t .closed }
+writingCancelled t = record { window = t .window; written = t .written; writing = []; over = t .over; reading = t .reading; read = t .read; opened = t .opened; touched = t .touched; closed = t .closed }
 
 abbrev pub readingCompleted : Story → Story
-readingCompleted t = record { window = t .window; written = t .written; writing = t .writing; over = t .reading ∷ t .over; reading = noReading; read = t .read ++ (t .reading .fetched ∷ []); touched = t .touched; closed = t .closed }
+readingCompleted t = record { window = t .window; written = t .written; writing = t .writing; over = t .reading ∷ t .over; reading = noReading; read = t .read ++ (t .reading .fetched ∷ []); opened = t .opened; touched = t .touched; closed = t .closed }
 
 abbrev pub readingCancelled : Story → Story
-readingCancelled t = record { window = t .window; written = t .written; writing = t .writing; over = t .reading ∷ t .over; reading = noReading; read = t .read; touched = t .touched; closed = t .closed }
+readingCancelled t = record { window = t .window; written = t .written; writing = t .writing; over = t .reading ∷ t .over; reading = noReading; read = t .read; opened = t .opened; touched = t .touched; closed = t .closed }
 
 abbrev pub when : Bool → (Story → Story) → Story → Story
 when true f t = f t
@@ -134,7 +136,7 @@ fetchedAt k v t = fetchedIn (t .window) k v t
 
 -- A FRAME'S END: a kept one completes the master's transaction if the frame closed it, a dropped one cancels it if the frame accessed it.
 abbrev pub frameOver : Story → Story
-frameOver t = record { window = t .window; written = t .written; writing = t .writing; over = t .over; reading = t .reading; read = t .read; touched = false; closed = false }
+frameOver t = record { window = t .window; written = t .written; writing = t .writing; over = t .over; reading = t .reading; read = t .read; opened = t .opened; touched = false; closed = false }
 
 abbrev pub keptIn : (stores : Side) → Story → Story
 keptIn Master t = frameOver (when (t .closed) writingCompleted t)
