@@ -1,15 +1,15 @@
 -- The register octets of a channel, written and read back. Assumes nothing.
 use mathlib.Core.Path.{_≡_, refl, sym, ap, _∙_}
-use mathlib.Core.Logic.{_≢_, _⊎_, ⊎-elim}
+use mathlib.Core.Logic.{_≢_}
 use mathlib.Core.Bool.{Bool, true, false, cond}
-use Prim.Native.Nat.{ℕ, _+_, _-_, _*_, _/_, _%_, _<_, _≤_}
+use Prim.Native.Nat.{ℕ, _-_, _%_, _<_, _≤_}
 use native.Mathlib.Omega.{arith}
 use lib.Dec.{eqb, ltb}
-use Rattle.std.proofs.shelf.Tests.{ltb-true, ltb-false, eqb-true, eqb-false, lt-ltb, le-ltb, eq-eqb, ne-eqb, cond-true, cond-false}
+use Rattle.std.proofs.shelf.Tests.{ltb-true, ltb-false, eqb-true, eqb-false, ne-eqb, cond-true, cond-false}
 use Rattle.access.specs.Fields.{octetAt, withOctet}
 use Rattle.access.proofs.Fields.{reads-back}
 use Rattle.channel.specs.declared.setting.Setting.{Setting}
-use Rattle.channel.specs.Settings.{bit, octetOf, withOctetAt, keptBits, Reads-back, Settings-read-back}
+use Rattle.channel.specs.Settings.{bit, octetOf, Settings-read-back}
 
 -- octets from their five values, and settings by which octet is written
 abbrev chosen : (j a b c status e : ℕ) → ℕ

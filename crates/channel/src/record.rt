@@ -1,6 +1,6 @@
 // A channel, in service or not, as an entry that covers addresses; and the judging of an enabling beside the other channels.
 ghost use mathlib.Core.Path.{_≡_};
-ghost use Rattle.channel.specs.Areas.{firstOf, lastOf, low, high, statusIn, touches, touchesIn, touchesAny, judgedWindow, judged};
+ghost use Rattle.channel.specs.Areas.{lastOf, low, high, statusIn, touches, touchesIn, touchesAny, judgedWindow, judged};
 use crate::service::Service;
 use crate::setting::Denial;
 use crate::setting::Setting;

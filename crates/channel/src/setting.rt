@@ -1,7 +1,7 @@
 // The register octets of a channel, and the window that they ask for.
 ghost use mathlib.Core.Path.{_≡_};
 ghost use Rattle.channel.specs.Settings.{octetOf, withOctetAt, windowOf, kindOf, storesOf, denialNumber, Settings-read-back};
-ghost use Rattle.channel.specs.Windows.{sizeOf, areaSize, inMemory, offsetIn};
+ghost use Rattle.channel.specs.Windows.{areaSize, inMemory, offsetIn};
 use access::Side;
 use access::SideDebug;
 use access::SideEq;

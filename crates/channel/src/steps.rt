@@ -1,6 +1,5 @@
 // What a done access and a frame's end make of a service, its status octet, and the places in the memory.
 ghost use mathlib.Core.Path.{_≡_};
-ghost use Rattle.channel.specs.Facts.{isMaster};
 ghost use Rattle.channel.specs.Services.{takenBy, touchedBy, closedBy, closes, accessed, left, cancelled, numberOf, present, rolesOpened, shownOpened, emptied, begun, factsOf, writingDone, readingDone, writingDoneIf, readingDoneIf, atOnce, otherSide, withStore, afterStore, openedIf, opened, withFetch, afterFetch, storePlace, fetchPlace, frameLeft, afterKept, afterDropped, shownNumber, kindBits, statusOf};
 ghost use Prim.Native.Nat.{_≤_};
 ghost use Rattle.channel.specs.Windows.{placeIn};

@@ -1,11 +1,10 @@
 -- What an access that no question refuses tells. Assumes nothing.
-use mathlib.Core.Path.{_≡_, refl, sym, ap, subst, _∙_}
-use mathlib.Core.Logic.{_⊎_, ⊎-elim}
-use mathlib.Core.Bool.{Bool, true, false, cond, not, _&&_, _||_}
+use mathlib.Core.Path.{_≡_, refl, sym, _∙_}
+use mathlib.Core.Bool.{Bool, true, false, cond, not, _&&_}
 use Prim.Native.Nat.{ℕ, _<_, _≤_}
 use native.Mathlib.Omega.{arith}
 use lib.Dec.{eqb, leb}
-use Rattle.std.proofs.shelf.Tests.{leb-true, leb-false, eq-eqb, cond-true, not-false, or-parts, true≢false, false≢true}
+use Rattle.std.proofs.shelf.Tests.{leb-true, leb-false, eq-eqb, cond-true, not-false, false≢true}
 use Rattle.std.specs.declared.result.Result.{Result}
 use Rattle.std.specs.declared.result.Result.the-variants.{Ok, Err}
 use Rattle.access.specs.declared.Side.{Side}
@@ -17,7 +16,7 @@ use Rattle.channel.specs.declared.setting.Kind.the-variants.{Buffered, Mailbox}
 use Rattle.channel.specs.declared.facts.Facts.{Facts}
 use Rattle.channel.specs.declared.facts.Refusal.{Refusal}
 use Rattle.channel.specs.declared.facts.Refusal.the-variants.{OutsideWindow, WrongSide, AlreadyClosed, OutOfTurn, MailboxFull, MailboxEmpty, NothingWritten}
-use Rattle.channel.specs.Facts.{isMaster, sameSide, rightWay, takenOf, opens, turn, asked}
+use Rattle.channel.specs.Facts.{isMaster, sameSide, rightWay, takenOf, opens, asked}
 use Rattle.channel.specs.Services.{otherSide}
 
 never : (x : Result ℕ Refusal) (r : Refusal) (j : ℕ) → x ≡ Err r → x ≡ Ok j → ⊥

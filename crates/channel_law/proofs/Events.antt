@@ -1,14 +1,13 @@
 -- Each part of a step keeps what the events tell. Assumes nothing.
 use mathlib.Core.Path.{_≡_, refl, sym, ap, subst, _∙_}
-use mathlib.Core.Logic.{_⊎_, ⊎-elim}
-use mathlib.Core.List.{List, [], _∷_, _++_}
+use mathlib.Core.List.{List, [], _∷_}
 use mathlib.Core.Bool.{Bool, true, false, cond, not, _&&_}
-use Prim.Native.Nat.{ℕ, suc, max, _+_, _-_, _*_, _<_, _≤_}
+use Prim.Native.Nat.{ℕ, _-_, _<_, _≤_}
 use native.Mathlib.Omega.{arith}
 use lib.Dec.{ltb, eqb}
 use lib.ListN.{length, getD, set}
 use Rattle.std.proofs.shelf.Lists.{length-push}
-use Rattle.std.proofs.shelf.Tests.{eqb-true, eqb-false, lt-ltb, le-ltb, and-right, true≢false, false≢true}
+use Rattle.std.proofs.shelf.Tests.{eqb-true, eqb-false, lt-ltb, le-ltb, and-right, false≢true}
 use Rattle.access.specs.declared.Side.{Side}
 use Rattle.access.specs.declared.Side.the-variants.{Master, Local}
 use Rattle.channel.specs.declared.service.Transaction.{Transaction}
@@ -18,7 +17,7 @@ use Rattle.channel.specs.Windows.{placeIn}
 use Rattle.channel.specs.Services.{takenBy, touchedBy, closedBy, left, numberOf, present, writingDone, readingDone, withStore, openedIf, withFetch, storePlace, frameLeft}
 use Rattle.channel.specs.declared.setting.Kind.the-variants.{Mailbox}
 use Rattle.channel_law.specs.Story.{Accesses, Reading, Story, takenIn, addStore, beforeThis, addFetch, noted, writingCompleted, writingCancelled, readingCompleted, readingCancelled, frameOver, when}
-use Rattle.channel_law.specs.Law.{latestOver, seenBy, seen}
+use Rattle.channel_law.specs.Law.{seenBy, seen}
 use Rattle.channel_law.proofs.Messages.{taken-none, goes-on}
 use Rattle.channel_law.proofs.Held.{extent, Parts, Events, Both}
 use Rattle.channel_law.proofs.Steps.{extent-open, extent-closed, stored, writing-completes, fetched-if, reading-completes, with-writing, with-reading, writing-cancelled, reading-cancelled, frame-left, frame-over, frame-noted}
@@ -57,7 +56,7 @@ module _ (m : List ℕ) (s : Service) (t : Story) (h : Both m s t) where
         let x = store-events (eqb (takenBy (s .writing)) 0) refl in
         record {
           parts = stored m s t i k v turn more free;
-          events = record { by-now = e .by-now; by-then = x .0; write-event = e .write-event; read-event = x .1; some-octet = e .some-octet }
+          events = record { by-now = e .by-now; by-then = x .0; write-event = e .write-event; read-event = x .1; some-octet = e .some-octet };
         }
 
   -- A FETCH: an opening reading clears the write event.
@@ -71,7 +70,7 @@ module _ (m : List ℕ) (s : Service) (t : Story) (h : Both m s t) where
         let q : beforeThis (t .reading .before) (length (t .written)) (t .reading .fetched) ≡ length (t .written) = ap (beforeThis (t .reading .before) (length (t .written))) (taken-none (t .reading .fetched) (omega arith)) in
         record {
           parts = fetched-if m s t i k turn more there true z;
-          events = record { by-now = omega arith; by-then = e .by-then; write-event = sym (le-ltb _ _ (omega arith)); read-event = e .read-event; some-octet = λ _. omega arith }
+          events = record { by-now = omega arith; by-then = e .by-then; write-event = sym (le-ltb _ _ (omega arith)); read-event = e .read-event; some-octet = λ _. omega arith };
         }
     fetched-both false z =
         let y = extent-open (s .window .length) (s .reading) more in let x = i .reading .taken in let o = eqb-false (takenBy (s .reading)) 0 z in
@@ -81,9 +80,12 @@ module _ (m : List ℕ) (s : Service) (t : Story) (h : Both m s t) where
         record {
           parts = fetched-if m s t i k turn more there false z;
           events = record {
-            by-now = subst (λ (n : ℕ). n ≤ length (t .written)) r (e .by-now); by-then = e .by-then;
-            write-event = e .write-event ∙ ap (λ (n : ℕ). ltb n (length (t .written))) r; read-event = e .read-event; some-octet = λ _. omega arith
-          }
+            by-now = subst (λ (n : ℕ). n ≤ length (t .written)) r (e .by-now);
+            by-then = e .by-then;
+            write-event = e .write-event ∙ ap (λ (n : ℕ). ltb n (length (t .written))) r;
+            read-event = e .read-event;
+            some-octet = λ _. omega arith;
+          };
         }
 
   -- COMPLETIONS set the events.
@@ -92,7 +94,7 @@ module _ (m : List ℕ) (s : Service) (t : Story) (h : Both m s t) where
       let l = length-push (t .written) (t .writing) in let b = e .by-now in
       record {
         parts = writing-completes m s t i c;
-        events = record { by-now = omega arith; by-then = e .by-then; write-event = sym (lt-ltb _ _ (omega arith)); read-event = e .read-event; some-octet = e .some-octet }
+        events = record { by-now = omega arith; by-then = e .by-then; write-event = sym (lt-ltb _ _ (omega arith)); read-event = e .read-event; some-octet = e .some-octet };
       }
 
   pub reading-completes-both : closedBy (s .reading) ≡ true → Both m (readingDone s) (readingCompleted t)
@@ -103,9 +105,12 @@ module _ (m : List ℕ) (s : Service) (t : Story) (h : Both m s t) where
       record {
         parts = reading-completes m s t i c;
         events = record {
-          by-now = subst (λ (n : ℕ). n ≤ length (t .written)) r (e .by-now); by-then = omega arith;
-          write-event = e .write-event ∙ ap (λ (n : ℕ). ltb n (length (t .written))) r; read-event = sym (lt-ltb _ _ (omega arith)); some-octet = λ z. absurd (false≢true z)
-        }
+          by-now = subst (λ (n : ℕ). n ≤ length (t .written)) r (e .by-now);
+          by-then = omega arith;
+          write-event = e .write-event ∙ ap (λ (n : ℕ). ltb n (length (t .written))) r;
+          read-event = sym (lt-ltb _ _ (omega arith));
+          some-octet = λ z. absurd (false≢true z);
+        };
       }
 
   -- CANCELLING puts neither back.
@@ -119,9 +124,12 @@ module _ (m : List ℕ) (s : Service) (t : Story) (h : Both m s t) where
       record {
         parts = reading-cancelled m s t i true;
         events = record {
-          by-now = subst (λ (n : ℕ). n ≤ length (t .written)) r (e .by-now); by-then = e .by-then;
-          write-event = e .write-event ∙ ap (λ (n : ℕ). ltb n (length (t .written))) r; read-event = e .read-event; some-octet = λ z. absurd (false≢true z)
-        }
+          by-now = subst (λ (n : ℕ). n ≤ length (t .written)) r (e .by-now);
+          by-then = e .by-then;
+          write-event = e .write-event ∙ ap (λ (n : ℕ). ltb n (length (t .written))) r;
+          read-event = e .read-event;
+          some-octet = λ z. absurd (false≢true z);
+        };
       }
   reading-cancelled-both false was = record { parts = reading-cancelled m s t i false; events = record { by-now = e .by-now; by-then = e .by-then; write-event = e .write-event; read-event = e .read-event; some-octet = e .some-octet } }
 
@@ -134,7 +142,7 @@ module _ (m : List ℕ) (s : Service) (t : Story) (h : Both m s t) where
   pub frame-left-both : closedBy (s .writing) ≡ false → closedBy (s .reading) ≡ false → Both m (frameLeft s) t
   frame-left-both p q = record {
     parts = frame-left m s t i p q;
-    events = record { by-now = e .by-now; by-then = e .by-then; write-event = e .write-event; read-event = e .read-event; some-octet = λ z. absurd (left-quiet (s .reading) z) }
+    events = record { by-now = e .by-now; by-then = e .by-then; write-event = e .write-event; read-event = e .read-event; some-octet = λ z. absurd (left-quiet (s .reading) z) };
   }
 
   pub frame-over-both : Both m s (frameOver t)

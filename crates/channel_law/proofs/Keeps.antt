@@ -1,16 +1,16 @@
 -- Each call keeps the invariant: a done store, a done fetch, a kept and a dropped frame end, an enabling, a change of the memory outside the area.
 -- Assumes nothing.
 use mathlib.Core.Path.{_≡_, refl, sym, ap, subst, subst₂, _∙_}
-use mathlib.Core.Logic.{_≢_, _⊎_, inl, inr, ⊎-elim}
-use mathlib.Core.List.{List, [], _∷_, _++_}
+use mathlib.Core.Logic.{_⊎_, ⊎-elim}
+use mathlib.Core.List.{List, []}
 use mathlib.Core.Bool.{Bool, true, false, cond, not, _&&_, _||_}
-use Prim.Native.Nat.{ℕ, _+_, _-_, _*_, _<_, _≤_}
+use Prim.Native.Nat.{ℕ, _+_, _-_, _<_}
 use native.Mathlib.Omega.{arith}
 use lib.Dec.{leb, ltb, eqb}
 use lib.ListN.{length, getD, set}
 use Rattle.std.proofs.shelf.Lists.{getD-set-other, length-set}
-use Rattle.std.proofs.shelf.Tests.{leb-true, leb-false, le-leb, lt-leb, eq-eqb, ne-eqb, lt-ltb, le-ltb, ltb-false, and-from, cases-eq, cases-lt, cases-bool, and-cases, or-parts, true≢false, false≢true}
-use Rattle.std.specs.declared.result.Result.the-variants.{Ok, Err}
+use Rattle.std.proofs.shelf.Tests.{leb-false, le-leb, lt-leb, eq-eqb, ne-eqb, lt-ltb, le-ltb, ltb-false, and-from, cases-eq, cases-bool, and-cases, or-parts, true≢false, false≢true}
+use Rattle.std.specs.declared.result.Result.the-variants.{Ok}
 use Rattle.access.specs.declared.Side.{Side}
 use Rattle.access.specs.declared.Side.the-variants.{Master, Local}
 use Rattle.access.specs.declared.Direction.the-variants.{Read, Write}
@@ -21,17 +21,17 @@ use Rattle.channel.specs.declared.facts.Facts.{Facts}
 use Rattle.channel.specs.declared.service.Transaction.{Transaction}
 use Rattle.channel.specs.declared.service.Transaction.the-variants.{Idle, Open, Waiting}
 use Rattle.channel.specs.declared.service.Service.{Service}
-use Rattle.channel.specs.Facts.{isMaster, takenOf, asked}
+use Rattle.channel.specs.Facts.{isMaster, asked}
 use Rattle.channel.specs.Windows.{areaSize, placeIn}
-use Rattle.channel.specs.Services.{takenBy, touchedBy, closedBy, closes, accessed, left, cancelled, numberOf, present, begun, factsOf, writingDoneIf, readingDoneIf, atOnce, otherSide, withStore, afterStore, openedIf, opened, withFetch, afterFetch, storePlace, fetchPlace, frameLeft, afterKept, afterDropped}
-use Rattle.channel_law.specs.Story.{Accesses, Story, newStory, takenIn, none, closedWriting, closedReading, messageTold, factsIn, factsTold, addStore, addFetch, noted, writingCompleted, writingCancelled, readingCompleted, readingCancelled, when, closing, completing, storedIn, fetchedIn, storedAt, fetchedAt, frameOver, keptIn, droppedIn, keptStory, droppedStory}
+use Rattle.channel.specs.Services.{takenBy, touchedBy, closedBy, closes, accessed, left, cancelled, numberOf, present, begun, factsOf, writingDoneIf, readingDoneIf, atOnce, otherSide, withStore, afterStore, openedIf, opened, withFetch, afterFetch, storePlace, fetchPlace, afterKept, afterDropped}
+use Rattle.channel_law.specs.Story.{Accesses, Story, newStory, messageTold, factsIn, factsTold, addStore, addFetch, noted, writingCompleted, writingCancelled, readingCompleted, readingCancelled, when, closing, completing, storedIn, fetchedIn, storedAt, fetchedAt, frameOver, keptIn, droppedIn, keptStory, droppedStory}
 use Rattle.channel_law.specs.Runs.{inArea}
 use Rattle.channel_law.specs.Law.{Fits}
-use Rattle.channel_law.proofs.Held.{extent, KindHeld, MailboxHeld, Both, FlagsOf, Flags, Held}
+use Rattle.channel_law.proofs.Held.{extent, KindHeld, MailboxHeld, Both, Flags, Held}
 use Rattle.channel_law.proofs.Steps.{extent-open, writingExtent, readingExtent, Agree, elsewhere-held}
 use Rattle.channel_law.proofs.Events.{stored-both, fetched-both, writing-completes-both, reading-completes-both, writing-cancelled-both, reading-cancelled-both, frame-left-both, frame-over-both, frame-noted-both}
 use Rattle.channel_law.proofs.Places.{place-from, place-below, place-exists}
-use Rattle.channel_law.proofs.Asked.{Allowed, allowed, opens-write, opens-read, side-writes, side-reads}
+use Rattle.channel_law.proofs.Asked.{allowed, opens-write, opens-read, side-writes, side-reads}
 
 -- AT AN ENABLING
 begun-kind : (q : Kind) → KindHeld q 0 0 false [] 0 []
@@ -205,7 +205,7 @@ store-held m s t h side k v j e =
     } in
     let last = subst (λ (b : Bool). Held (set m (storePlace s k) v) (afterStore s k) (when (atOnce p b) writingCompleted (noted p b (addStore t k v)))) (closes-told (s .window) k (a .in-window)) all in
     let told : Held (set m (storePlace s k) v) (afterStore s k) (storedIn (s .window) k v t) =
-          subst (λ (b : Bool). Held (set m (storePlace s k) v) (afterStore s k) (when b writingCompleted (noted p (closing (s .window) k) (addStore t k v)))) (at-once-told p (closing (s .window) k)) last in
+    subst (λ (b : Bool). Held (set m (storePlace s k) v) (afterStore s k) (when b writingCompleted (noted p (closing (s .window) k) (addStore t k v)))) (at-once-told p (closing (s .window) k)) last in
     subst (λ (w : Window). Held (set m (storePlace s k) v) (afterStore s k) (storedIn w k v t)) (h .same) told
 
 -- the octet that a fetch finds, once the buffer is chosen
@@ -232,7 +232,7 @@ fetch-finish m s t h k v r kl same-window same-writing is i =
     } in
     let last = subst (λ (z : Bool). Held m (readingDoneIf b r) (when (atOnce (otherSide p) z) readingCompleted (noted (otherSide p) z (addFetch t k v)))) (closes-told (s .window) k kl) all in
     let told : Held m (readingDoneIf b r) (fetchedIn (s .window) k v t) =
-          subst (λ (z : Bool). Held m (readingDoneIf b r) (when z readingCompleted (noted (otherSide p) (closing (s .window) k) (addFetch t k v)))) (at-once-told (otherSide p) (closing (s .window) k)) last in
+    subst (λ (z : Bool). Held m (readingDoneIf b r) (when z readingCompleted (noted (otherSide p) (closing (s .window) k) (addFetch t k v)))) (at-once-told (otherSide p) (closing (s .window) k)) last in
     subst (λ (w : Window). Held m (readingDoneIf b r) (fetchedIn w k v t)) (h .same) told
 
 fetch-by : (m : List ℕ) (s : Service) (t : Story) → Held m s t → (k : ℕ) → k < s .window .length → (o : Bool) → Both m (withFetch (openedIf o s) k) (addFetch t k (fetchedBy m s o k)) →

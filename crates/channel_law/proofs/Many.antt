@@ -1,14 +1,12 @@
 -- Several channels over one memory: what holds of each stays, whatever is done to one of them. Assumes nothing.
-use mathlib.Core.Path.{_≡_, refl, sym, ap, subst, _∙_}
-use mathlib.Core.Logic.{_⊎_, ⊎-elim}
+use mathlib.Core.Path.{_≡_, refl, ap, subst, _∙_}
 use mathlib.Core.List.{List, [], _∷_, map}
-use mathlib.Core.Bool.{Bool, true, false, cond, _&&_}
-use Prim.Native.Nat.{ℕ, zero, suc, _+_, _-_, _<_, _≤_}
+use mathlib.Core.Bool.{false}
+use Prim.Native.Nat.{ℕ, zero, suc, _-_}
 use native.Mathlib.Omega.{arith}
-use lib.Dec.{leb, ltb}
 use lib.ListN.{length, getD, set}
-use Rattle.std.proofs.shelf.Lists.{getD-set-other, length-set}
-use Rattle.std.proofs.shelf.Tests.{le-leb, lt-ltb, and-from, true≢false}
+use Rattle.std.proofs.shelf.Lists.{length-set}
+use Rattle.std.proofs.shelf.Tests.{le-leb, lt-ltb, and-from}
 use Rattle.std.specs.Options.{mapped}
 use Rattle.std.specs.declared.option.Option.{Option}
 use Rattle.std.specs.declared.option.Option.the-variants.{Some, None}
@@ -20,7 +18,6 @@ use Rattle.channel.specs.declared.facts.Facts.{Facts}
 use Rattle.channel.specs.declared.service.Service.{Service}
 use Rattle.channel.specs.declared.record.Channel.{Channel}
 use Rattle.channel.specs.Facts.{asked}
-use Rattle.channel.specs.Windows.{areaSize}
 use Rattle.channel.specs.Services.{begun, factsOf, storePlace, fetchPlace, afterStore, afterFetch, afterKept, afterDropped}
 use Rattle.channel_law.specs.Story.{Story, newStory, factsTold, storedAt, fetchedAt, keptStory, droppedStory}
 use Rattle.channel_law.specs.Runs.{inArea}
@@ -75,7 +72,7 @@ pub record Only (w : Window) (m n : List ℕ) : Type 0 where
 pub other-held : (m n : List ℕ) (w : Window) → Fits (length m) w → Only w m n → (s : Service) (t : Story) → Held m s t → Disjoint w (s .window) → Held n s t
 other-held m n w fits o s t h d =
     memory-held m n s t h (o .long) (λ p lo hi.
-      o .same p (disjoint-places (length m) (s .window) w (h .parts .fits) fits (swap w (s .window) d) p (and-from _ _ (le-leb _ _ lo) (lt-ltb _ _ hi))))
+    o .same p (disjoint-places (length m) (s .window) w (h .parts .fits) fits (swap w (s .window) d) p (and-from _ _ (le-leb _ _ lo) (lt-ltb _ _ hi))))
 
 other-both : (m n : List ℕ) (w : Window) → Fits (length m) w → Only w m n → (c : Option Service) (t : Option Story) → BothHeld m c t → DisjointIn w c → BothHeld n c t
 other-both m n w fits o None None h d = tt

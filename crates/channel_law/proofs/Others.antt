@@ -1,23 +1,22 @@
 -- One channel beside others: areas that do not touch, and what an access to one leaves of another. Assumes nothing.
-use mathlib.Core.Path.{_≡_, refl, sym, ap, subst, _∙_}
+use mathlib.Core.Path.{_≡_, refl, subst}
 use mathlib.Core.Logic.{_⊎_, ⊎-elim}
 use mathlib.Core.List.{List, [], _∷_}
-use mathlib.Core.Bool.{Bool, true, false, cond, not, _&&_, _||_}
-use Prim.Native.Nat.{ℕ, _+_, _-_, _*_, _<_, _≤_}
+use mathlib.Core.Bool.{Bool, true, false, cond, not}
+use Prim.Native.Nat.{ℕ, _+_, _-_, _<_, _≤_}
 use native.Mathlib.Omega.{arith}
 use lib.Dec.{leb, ltb}
 use lib.ListN.{length, set}
-use Rattle.std.proofs.shelf.Tests.{leb-true, leb-false, ltb-true, ltb-false, le-leb, lt-ltb, and-parts, and-from, and-cases, or-parts, not-false, cases-bool, true≢false}
+use Rattle.std.proofs.shelf.Tests.{leb-true, leb-false, ltb-true, ltb-false, le-leb, lt-ltb, and-parts, and-from, and-cases, or-parts, not-false, cases-bool}
 use Rattle.std.specs.declared.option.Option.{Option}
 use Rattle.std.specs.declared.option.Option.the-variants.{Some, None}
 use Rattle.std.specs.declared.result.Result.{Result}
 use Rattle.std.specs.declared.result.Result.the-variants.{Ok, Err}
 use Rattle.channel.specs.declared.setting.Kind.{Kind}
 use Rattle.channel.specs.declared.setting.Kind.the-variants.{Buffered, Mailbox}
-use Rattle.channel.specs.declared.setting.Setting.{Setting}
 use Rattle.channel.specs.declared.setting.Window.{Window}
 use Rattle.channel.specs.declared.setting.Denial.{Denial}
-use Rattle.channel.specs.declared.setting.Denial.the-variants.{Control, Length, Memory, Overlap}
+use Rattle.channel.specs.declared.setting.Denial.the-variants.{Length, Memory, Overlap}
 use Rattle.channel.specs.declared.service.Service.{Service}
 use Rattle.channel.specs.declared.record.Channel.{Channel}
 use Rattle.channel.specs.Settings.{windowOf}

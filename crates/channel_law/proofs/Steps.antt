@@ -3,13 +3,13 @@ use mathlib.Core.Path.{_≡_, refl, sym, ap, subst, subst₂, _∙_}
 use mathlib.Core.Logic.{_≢_, _⊎_, inl, inr, ⊎-elim}
 use mathlib.Core.List.{List, [], _∷_, _++_}
 use mathlib.Core.Bool.{Bool, true, false, cond, not}
-use Prim.Native.Nat.{ℕ, suc, max, _+_, _-_, _*_, _<_, _≤_}
+use Prim.Native.Nat.{ℕ, max, _+_, _-_, _<_, _≤_}
 use native.Mathlib.Omega.{arith}
 use lib.Dec.{leb, eqb}
 use lib.ListN.{length, getD, set}
 use Rattle.std.proofs.shelf.Lists.{getD-set-same, getD-set-other, length-set, length-push, getD-append-left, getD-push}
 use Rattle.std.proofs.shelf.Tests.{leb-true, leb-false, eqb-true, eqb-false, cases-eq, cases-lt, cases-bool, true≢false, false≢true}
-use Rattle.std.specs.declared.option.Option.the-variants.{Some, None}
+use Rattle.std.specs.declared.option.Option.the-variants.{Some}
 use Rattle.access.specs.declared.Side.{Side}
 use Rattle.access.specs.declared.Side.the-variants.{Master, Local}
 use Rattle.channel.specs.declared.setting.Kind.{Kind}
@@ -18,18 +18,17 @@ use Rattle.channel.specs.declared.setting.Window.{Window}
 use Rattle.channel.specs.declared.service.Transaction.{Transaction}
 use Rattle.channel.specs.declared.service.Transaction.the-variants.{Idle, Open, Waiting}
 use Rattle.channel.specs.declared.service.Buffer.{Buffer}
-use Rattle.channel.specs.declared.service.Roles.{Roles}
 use Rattle.channel.specs.declared.service.Shown.{Shown}
 use Rattle.channel.specs.declared.service.Shown.the-variants.{Nothing, Ready, Fetch}
 use Rattle.channel.specs.declared.service.Service.{Service}
 use Rattle.channel.specs.Windows.{areaSize, inMemory, placeIn}
-use Rattle.channel.specs.Services.{takenBy, touchedBy, closedBy, closes, accessed, left, numberOf, present, rolesOpened, shownOpened, emptied, writingDone, readingDone, withStore, openedIf, withFetch, storePlace, frameLeft}
-use Rattle.channel_law.specs.Story.{Accesses, Reading, Story, takenIn, none, noReading, addStore, beforeThis, addFetch, writingCompleted, writingCancelled, readingCompleted, readingCancelled, frameOver, noted, when}
-use Rattle.channel_law.specs.Law.{last, Shows, ShowsLatest, AllShow, Fits}
+use Rattle.channel.specs.Services.{takenBy, closedBy, closes, accessed, left, numberOf, present, rolesOpened, shownOpened, emptied, writingDone, readingDone, withStore, openedIf, withFetch, storePlace, frameLeft}
+use Rattle.channel_law.specs.Story.{Accesses, Story, takenIn, none, addStore, beforeThis, addFetch, writingCompleted, writingCancelled, readingCompleted, readingCancelled, frameOver, noted, when}
+use Rattle.channel_law.specs.Law.{last, Shows, ShowsLatest}
 use Rattle.channel_law.specs.Sound.{Apart}
 use Rattle.channel_law.proofs.Places.{place-from, place-below, place-exists, apart}
 use Rattle.channel_law.proofs.Messages.{last-same, last-other, taken-none, goes-on, nth, none-push, latest-push, nth-push, latest-some, latest-shows, latest-more, all-more}
-use Rattle.channel_law.proofs.Held.{extent, Holds, WritingHeld, ReadingHeld, ShownHeld, MailboxHeld, KindHeld, Parts}
+use Rattle.channel_law.proofs.Held.{extent, Holds, WritingHeld, ReadingHeld, ShownHeld, KindHeld, Parts}
 
 -- one that is not closed has taken what it tells; a closed one, all
 pub extent-open : (L : ℕ) (x : Transaction) → closedBy x ≡ false → extent L x ≡ takenBy x

@@ -1,13 +1,13 @@
 -- The law, by induction over the calls. Assumes nothing.
 use mathlib.Core.Path.{_≡_, refl, sym, ap, subst, _∙_}
-use mathlib.Core.Logic.{_⊎_, inl, inr, ⊎-elim}
+use mathlib.Core.Logic.{_⊎_, inl, inr}
 use mathlib.Core.List.{List, [], _∷_}
 use mathlib.Core.Bool.{Bool, true, false, cond, not, _&&_, _||_}
 use Prim.Native.Nat.{ℕ, suc, _+_, _*_, _<_, _≤_}
 use native.Mathlib.Omega.{arith}
 use lib.Dec.{eqb, leb}
 use lib.ListN.{length, getD, set}
-use Rattle.std.proofs.shelf.Tests.{le-leb, lt-leb, eqb-true, eqb-false, ne-eqb, cond-false, not-from-true, true≢false, false≢true, cases-bool}
+use Rattle.std.proofs.shelf.Tests.{le-leb, lt-leb, eqb-false, ne-eqb, cond-false, not-from-true}
 use Rattle.std.specs.declared.result.Result.{Result}
 use Rattle.std.specs.declared.result.Result.the-variants.{Ok, Err}
 use Rattle.access.specs.declared.Side.{Side}
@@ -18,21 +18,21 @@ use Rattle.channel.specs.declared.setting.Kind.the-variants.{Buffered, Mailbox}
 use Rattle.channel.specs.declared.setting.Window.{Window}
 use Rattle.channel.specs.declared.facts.Facts.{Facts}
 use Rattle.channel.specs.declared.facts.Refusal.{Refusal}
-use Rattle.channel.specs.declared.facts.Refusal.the-variants.{OutsideWindow, WrongSide, AlreadyClosed, OutOfTurn, NothingWritten}
+use Rattle.channel.specs.declared.facts.Refusal.the-variants.{AlreadyClosed}
 use Rattle.channel.specs.declared.service.Roles.{Roles}
 use Rattle.channel.specs.declared.service.Shown.{Shown}
 use Rattle.channel.specs.declared.service.Shown.the-variants.{Nothing, Ready, Fetch}
 use Rattle.channel.specs.declared.service.Service.{Service}
 use Rattle.channel.specs.Settings.{bit}
-use Rattle.channel.specs.Facts.{isMaster, sameSide, rightWay, takenOf, opens, turn, asked}
-use Rattle.channel.specs.Services.{takenBy, closedBy, present, otherSide, factsOf, fetchPlace, shownNumber, kindBits, statusOf}
-use Rattle.channel_law.specs.Story.{Accesses, Story, newStory, takenIn, none, closedWriting, closedReading, messageTold, factsTold}
-use Rattle.channel_law.specs.Runs.{Call, write, read, kept, dropped, elsewhere, Answer, done, got, refused, State, first, inArea, afterWrite, afterRead, step, answerTo, answer, run, history, toldWrite, toldRead, note, tell}
-use Rattle.channel_law.specs.Law.{Shows, ShowsLatest, AllShow, InOrder, WholeOf, Whole, bare, due, InTurn, failed, reason, RefusedRightly, InWords, Answered, EachAnswered, StatusOf, Status, Taken, Alone, Fits, Promise, Messages-are-whole}
+use Rattle.channel.specs.Facts.{isMaster, rightWay, takenOf, opens, turn, asked}
+use Rattle.channel.specs.Services.{present, factsOf, fetchPlace, shownNumber, kindBits, statusOf}
+use Rattle.channel_law.specs.Story.{Accesses, Story, newStory, takenIn, none, closedReading, messageTold, factsTold}
+use Rattle.channel_law.specs.Runs.{Call, write, read, kept, dropped, elsewhere, Answer, done, got, State, first, inArea, afterWrite, afterRead, step, answerTo, answer, run, history, toldWrite, toldRead, note, tell}
+use Rattle.channel_law.specs.Law.{ShowsLatest, WholeOf, Whole, bare, InTurn, failed, RefusedRightly, Answered, EachAnswered, StatusOf, Status, Taken, Alone, Messages-are-whole}
 use Rattle.channel_law.specs.Sound.{Sound}
 use Rattle.channel_law.proofs.Places.{number-below}
 use Rattle.channel_law.proofs.Messages.{latest-some}
-use Rattle.channel_law.proofs.Held.{MailboxHeld, KindHeld, Held}
+use Rattle.channel_law.proofs.Held.{KindHeld, Held}
 use Rattle.channel_law.proofs.Steps.{writingExtent, readingExtent}
 use Rattle.channel_law.proofs.Asked.{allowed, side-writes, side-reads}
 use Rattle.channel_law.proofs.Keeps.{begun-held, message-told, facts-agree, store-held, fetch-held, kept-held, dropped-held, write-elsewhere, store-elsewhere}

@@ -36,7 +36,9 @@ mod tests {
 
     // The status octet.
     fn shown(service: Service) -> u8 {
-        Channel { service: Some(service) }.status()
+        Channel {
+            service: Some(service),
+        }.status()
     }
 
     fn store<M: Memory>(
@@ -46,7 +48,9 @@ mod tests {
         offset: u8,
         octet: u8,
     ) -> Result<Service, Fail> {
-        let offset = service.facts().ask(side, Direction::Write, START + u32::from(offset))?;
+        let offset = service
+            .facts()
+            .ask(side, Direction::Write, START + u32::from(offset))?;
         memory.write(service.store_place(offset), octet)?;
         Ok(service.after_store(offset))
     }
@@ -59,7 +63,9 @@ mod tests {
         offset: u8,
         octet: u8,
     ) -> Result<Service, Fail> {
-        let offset = service.facts().ask(side, Direction::Read, START + u32::from(offset))?;
+        let offset = service
+            .facts()
+            .ask(side, Direction::Read, START + u32::from(offset))?;
         check_eq(memory.read(service.fetch_place(offset))?, octet)?;
         Ok(service.after_fetch(offset))
     }
