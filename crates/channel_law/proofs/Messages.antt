@@ -33,10 +33,6 @@ pub none-push : (ws : List Accesses) (w : Accesses) → none (ws ++ (w ∷ [])) 
 none-push [] w = refl
 none-push (x ∷ ws) w = refl
 
-pub none-length : (ws : List Accesses) → none ws ≡ false → 0 < length ws
-none-length [] e = let z : _≡_ {A = ℕ} 0 1 = cc in omega arith
-none-length (x ∷ ws) e = omega arith
-
 pub latest-push : (ws : List Accesses) (w : Accesses) → nth (ws ++ (w ∷ [])) (length (ws ++ (w ∷ []))) ≡ w
 latest-push ws w = let e = length-push ws w in getD-push ws w [] (length (ws ++ (w ∷ [])) - 1) (omega arith)
 

@@ -1,12 +1,12 @@
--- One channel beside others: areas that do not touch, and what an access to one leaves of another. Assumes nothing.
+-- One channel beside others: accepted enablings, and areas that do not touch. Assumes nothing.
 use mathlib.Core.Path.{_≡_, refl, subst}
 use mathlib.Core.Logic.{_⊎_, ⊎-elim}
 use mathlib.Core.List.{List, [], _∷_}
 use mathlib.Core.Bool.{Bool, true, false, cond, not}
-use Prim.Native.Nat.{ℕ, _+_, _-_, _<_, _≤_}
+use Prim.Native.Nat.{ℕ, _+_, _-_, _≤_}
 use native.Mathlib.Omega.{arith}
 use lib.Dec.{leb, ltb}
-use lib.ListN.{length, set}
+use lib.ListN.{length}
 use Rattle.std.proofs.shelf.Tests.{leb-true, leb-false, ltb-true, ltb-false, le-leb, lt-ltb, and-parts, and-from, and-cases, or-parts, not-false, cases-bool}
 use Rattle.std.specs.declared.option.Option.{Option}
 use Rattle.std.specs.declared.option.Option.the-variants.{Some, None}
@@ -21,14 +21,10 @@ use Rattle.channel.specs.declared.service.Service.{Service}
 use Rattle.channel.specs.declared.record.Channel.{Channel}
 use Rattle.channel.specs.Settings.{windowOf}
 use Rattle.channel.specs.Windows.{sizeOf, areaSize, inMemory}
-use Rattle.channel.specs.Services.{storePlace}
 use Rattle.channel.specs.Areas.{firstOf, lastOf, touches, touchesIn, touchesAny, judgedWindow, judgedIf}
-use Rattle.channel_law.specs.Story.{Story}
 use Rattle.channel_law.specs.Runs.{inArea}
 use Rattle.channel_law.specs.Law.{Fits}
 use Rattle.channel_law.specs.Enabling.{Disjoint, DisjointIn, DisjointAll, Enablings-fit}
-use Rattle.channel_law.proofs.Held.{Held}
-use Rattle.channel_law.proofs.Keeps.{store-inside, write-elsewhere}
 
 -- AN ACCEPTED ENABLING
 denied : (b : Bool) (r : Denial) (x : Result Window Denial) (w : Window) → cond b (Err r) x ≡ Ok w → (b ≡ false) × (x ≡ Ok w)
@@ -89,8 +85,3 @@ disjoint-places n w v f g d p e =
     absurd (d (p + 0x1000) (omega arith) (omega arith) (omega arith) (omega arith)))
     (λ x. x)
     (cases-bool (inArea v p))
-
--- A STORE in one channel leaves what holds of another whose area does not touch its own.
-pub store-other : (m : List ℕ) (s r : Service) (t u : Story) → Held m s t → Held m r u → Disjoint (s .window) (r .window) → (k v : ℕ) → k < s .window .length → Held (set m (storePlace s k) v) r u
-store-other m s r t u h g d k v kl =
-    write-elsewhere m r u g (storePlace s k) v (disjoint-places (length m) (s .window) (r .window) (h .parts .fits) (g .parts .fits) d (storePlace s k) (store-inside m s t h k kl .0))
