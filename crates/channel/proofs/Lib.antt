@@ -1,0 +1,2 @@
+mod Overlaps
+mod Octets

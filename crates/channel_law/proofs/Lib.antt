@@ -1,0 +1,11 @@
+pub mod Places
+pub mod Messages
+pub mod Held
+pub mod Steps
+pub mod Events
+pub mod Asked
+pub mod Keeps
+pub mod Whole
+pub mod Sound
+pub mod Others
+pub mod Many

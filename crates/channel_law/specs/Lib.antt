@@ -1,0 +1,5 @@
+pub mod Sound
+pub mod Story
+pub mod Runs
+pub mod Law
+pub mod Enabling
