@@ -1,0 +1,4 @@
+pub mod Commands
+pub mod Outcomes
+pub mod Datagrams
+pub mod Cursors
