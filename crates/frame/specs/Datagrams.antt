@@ -16,6 +16,10 @@ use Rattle.frame.specs.declared.datagram.Wanted.{Wanted}
 use Rattle.frame.specs.Commands.{addressingOf, actionOf, isAddressed, shallRead, shallWrite, writeWorth}
 use Rattle.frame.specs.Outcomes.{met, worth}
 
+-- a number of 16 bits from its two octets
+abbrev pub pair : (low high : ℕ) → ℕ
+pair low high = low + 256 * high
+
 -- at its command
 abbrev pub fresh : Command → Datagram
 fresh k = record { command = k; adp = 0; ado = 0; length = 0; more = false; addressed = false; read = Nothing; write = Nothing }
@@ -30,7 +34,7 @@ offset d ado = record { command = d .command; adp = d .adp; ado = ado; length = 
 
 -- with the two octets that hold LEN in bits 0 to 10 and NEXT in bit 15
 abbrev pub measured : Datagram → (low high : ℕ) → Datagram
-measured d low high = record { command = d .command; adp = d .adp; ado = d .ado; length = low + 256 * (high % 8); more = leb 128 high; addressed = d .addressed; read = d .read; write = d .write }
+measured d low high = record { command = d .command; adp = d .adp; ado = d .ado; length = pair low (high % 8); more = leb 128 high; addressed = d .addressed; read = d .read; write = d .write }
 
 -- after a data octet
 abbrev pub tallied : {F : Type 0} → Datagram → Outcome ℕ F → Outcome (Unit {0}) F → Datagram
