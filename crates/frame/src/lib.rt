@@ -3,4 +3,6 @@
 pub mod command;
 pub mod cursor;
 pub mod datagram;
+pub mod feed;
 pub mod outcome;
+pub mod progress;
