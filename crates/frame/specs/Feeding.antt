@@ -1,19 +1,16 @@
 -- A whole frame over a memory that does every access and holds one octet everywhere.
 use Prim.Native.Nat.{ℕ}
-use mathlib.Core.Bool.{Bool, true, false, cond}
+use mathlib.Core.Bool.{Bool, true, false}
 use Rattle.std.specs.declared.option.Option.{Option}
 use Rattle.std.specs.declared.option.Option.the-variants.{Some, None}
-use Rattle.std.specs.declared.result.Result.{Result}
-use Rattle.std.specs.declared.result.Result.the-variants.{Ok, Err}
 use Rattle.frame.specs.declared.command.Addresses.{Addresses}
 use Rattle.frame.specs.declared.outcome.Outcome.{Outcome}
 use Rattle.frame.specs.declared.outcome.Outcome.the-variants.{NotWanted, Done}
 use Rattle.frame.specs.declared.outcome.Accessed.{Accessed}
 use Rattle.frame.specs.declared.datagram.Wanted.{Wanted}
 use Rattle.frame.specs.declared.progress.Progress.{Progress}
-use Rattle.frame.specs.declared.progress.Reason.{Reason}
 use Rattle.frame.specs.Outcomes.{unasked, replaced}
-use Rattle.frame.specs.Frames.{wantedBy, given, answered}
+use Rattle.frame.specs.Frames.{wantedBy, given, answered, orSame}
 
 -- an access that is wanted is done
 abbrev pub doneIf : {X : Type 0} → Bool → X → Outcome X (Unit {0})
@@ -23,11 +20,6 @@ doneIf false x = NotWanted
 abbrev pub served : (holds o : ℕ) → Option Wanted → Accessed (Unit {0})
 served h o None = unasked o
 served h o (Some w) = replaced o (doneIf (w .read) h) (doneIf (w .write) tt)
-
--- a refused octet is forwarded as it came
-abbrev pub orSame : ℕ → Result ℕ Reason → ℕ
-orSame o (Ok v) = v
-orSame o (Err e) = o
 
 abbrev pub fedNext : Addresses → (holds : ℕ) → Progress → (o : ℕ) → Progress
 fedNext a h f o = given f o a (served h o (wantedBy f) .read) (served h o (wantedBy f) .write)

@@ -46,6 +46,11 @@ given f o a r w = cond (hasRoom f) (advancedFrame f o a r w) (overran f)
 abbrev pub answered : Progress → (o laid : ℕ) → Result ℕ Reason
 answered f o laid = cond (hasRoom f) (Ok (leavesOf (f .cursor) o laid)) (Err TooLong)
 
+-- a refused octet is forwarded as it came
+abbrev pub orSame : ℕ → Result ℕ Reason → ℕ
+orSame o (Ok v) = v
+orSame o (Err e) = o
+
 -- the last datagram is complete, or the frame is passing
 abbrev pub endedBy : Position → Bool
 endedBy at.HeaderLow = false

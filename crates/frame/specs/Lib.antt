@@ -5,3 +5,5 @@ pub mod Cursors
 pub mod Frames
 pub mod Runs
 pub mod Feeding
+pub mod Wire
+pub mod Laws

@@ -114,14 +114,14 @@ impl Cursor {
     // ADP is judged here, by the addresses as they are now.
     fn adp_high(&mut self, low: u8, high: u8, addresses: Addresses) -> u8
         ensures next { λ _. ⌜ now (self .exit) ≡ to Position.AdoLow (judged (now (self .entry) .datagram) (pair low high) addresses) ⌝ }
-        ensures leaves { λ r. ⌜ r ≡ carried (eqb low 255 && forwardsNext (addressingOf (now (self .entry) .datagram .command))) high ⌝ }
+        ensures leaves { λ r. ⌜ r ≡ carried (forwardsNext (addressingOf (now (self .entry) .datagram .command)) && eqb low 255) high ⌝ }
     {
         let adp = low as u16 + 256 * high as u16;
         let addressing = self.datagram.command.addressing();
         self.datagram.adp = adp;
         self.datagram.addressed = addressing.holds(adp, addresses);
         self.position = Position::AdoLow;
-        with_carry(high, low == 255 && self.datagram.command.forwards_next())
+        with_carry(high, self.datagram.command.forwards_next() && low == 255)
     }
 
     fn ado_high(&mut self, low: u8, high: u8) -> u8

@@ -1,9 +1,9 @@
 // Whole slices, to measure: over a memory that does every access and holds one octet everywhere.
 ghost use mathlib.Core.Path.{_≡_};
 ghost use Rattle.std.specs.Iters.{folded};
-ghost use Rattle.frame.specs.Frames.{begunFrame};
+ghost use Rattle.frame.specs.Frames.{begunFrame, orSame};
 ghost use Rattle.frame.specs.Runs.{emitted};
-ghost use Rattle.frame.specs.Feeding.{doneIf, served, orSame, fedNext, fedOctet};
+ghost use Rattle.frame.specs.Feeding.{doneIf, served, fedNext, fedOctet};
 use crate::command::Addresses;
 use crate::datagram::Wanted;
 use crate::outcome::Accessed;
