@@ -2,7 +2,7 @@
 ghost use mathlib.Core.Path.{_≡_};
 ghost use Rattle.frame.specs.Commands.{commandOf, addressingOf, actionOf, isAddressed, forwardsNext, shallRead, shallWrite, writeWorth, ors};
 
-#[derive(Clone, Copy, PartialEq, Eq, Debug)]
+#[derive(Clone, Copy)]
 pub enum Command {
     Aprd,
     Apwr,
@@ -23,7 +23,7 @@ pub enum Command {
 
 // Whom a command addresses: the station that it reaches with ADP 0, the one whose address or alias is ADP, every station, whoever maps the
 // logical address, or nobody.
-#[derive(Clone, Copy, PartialEq, Eq, Debug)]
+#[derive(Clone, Copy)]
 pub enum Addressing {
     ByPosition,
     ByAddress,
@@ -33,7 +33,7 @@ pub enum Addressing {
 }
 
 // What a command asks for. `ReadOrWrite`: of the addressed station a read, of the others a write.
-#[derive(Clone, Copy, PartialEq, Eq, Debug)]
+#[derive(Clone, Copy)]
 pub enum Action {
     Read,
     Write,
@@ -43,7 +43,7 @@ pub enum Action {
 }
 
 // The addresses that a station answers to: the one that the master set, and the local side's alias.
-#[derive(Clone, Copy, PartialEq, Eq, Debug)]
+#[derive(Clone, Copy)]
 pub struct Addresses {
     pub station: u16,
     pub alias: u16,

@@ -13,7 +13,7 @@ use crate::datagram::Wanted;
 use crate::outcome::Accessed;
 
 // The part of the frame that its next octet is. Of a field of two octets the second knows what it needs of the first.
-#[derive(Clone, Copy, PartialEq, Eq, Debug)]
+#[derive(Clone, Copy)]
 pub enum Position {
     HeaderLow,
     HeaderHigh,

@@ -11,7 +11,7 @@ pub enum Outcome<T, F> {
 }
 
 // What a datagram's accesses in one direction came to so far.
-#[derive(Clone, Copy, PartialEq, Eq, Debug)]
+#[derive(Clone, Copy)]
 pub enum Tally {
     Nothing,
     Success,
@@ -19,7 +19,7 @@ pub enum Tally {
 }
 
 // Both outcomes of a data octet, and the octet itself with the fetched bits in the place of its own.
-#[derive(Clone, Copy, PartialEq, Eq, Debug)]
+#[derive(Clone, Copy)]
 pub struct Accessed<F> {
     pub read: Outcome<u8, F>,
     pub write: Outcome<(), F>,
