@@ -24,7 +24,7 @@ use Rattle.frame.specs.Datagrams.{fresh}
 use Rattle.frame.specs.Cursors.{to, begun, nextAt, leavesAt, followedBy}
 use Rattle.frame.specs.Frames.{begunFrame, hasRoom, endedBy, passes, kept, orSame, answered}
 use Rattle.frame.specs.Wire.{Item, octets, next, out, after, leaving, nextFrame, outFrame, fed, forwarded, Telegram, Formed, AllFormed, head, foot, wire, passed, chain, framed}
-use Rattle.frame.specs.Laws.{Padding-leaves, Passing-leaves, Frame-leaves, Frame-ends, Cut-frame-does-not-end, First-octets-count, First-octets-leave, Frame-is-kept, Cut-frame-is-dropped}
+use Rattle.frame.specs.Laws.{Padding-leaves, Passing-leaves, Frame-leaves, Frame-ends, Cut-frame-does-not-end, First-octets-count, First-octets-leave, Frame-is-kept, Passing-is-kept, Long-frame-is-dropped, Cut-frame-is-dropped}
 use Rattle.frame.proofs.Steps.{folded-append, emitted-append}
 use Rattle.frame.proofs.Telegrams.{headed, after-items, after-wire, wire-leaves}
 
@@ -224,6 +224,17 @@ module _ {F : Type 0} where
   pub frame-is-kept : Frame-is-kept F
   frame-is-kept low high t ts padding v e f h =
       judged (framed low high t ts ++ padding) v h ∙ ap (λ b. cond b (passes v) (Err Unfinished)) (frame-ends low high t ts padding e f)
+
+  pub passing-is-kept : Passing-is-kept F
+  passing-is-kept low high xs v e h =
+      judged (low ∷ high ∷ xs) v h
+      ∙ ap (λ b. cond (endedBy (after (opened b) xs .position)) (passes v) (Err Unfinished)) e
+      ∙ ap (λ b. cond b (passes v) (Err Unfinished)) (stays (opened false) xs refl)
+
+  pub long-frame-is-dropped : Long-frame-is-dropped F
+  long-frame-is-dropped xs v h =
+      ap (λ f. kept f v) (first-octets-count xs)
+      ∙ ap (λ b. cond b (Err TooLong) (cond (endedBy (after begun (take 1500 xs) .position)) (passes v) (Err Unfinished))) (lt-ltb 1500 (length xs) h)
 
   pub cut-frame-is-dropped : Cut-frame-is-dropped F
   cut-frame-is-dropped low high t ts k v e f h l =

@@ -10,7 +10,7 @@ use Rattle.std.specs.declared.result.Result.the-variants.{Err}
 use Rattle.frame.specs.declared.cursor.Cursor.{Cursor}
 use Rattle.frame.specs.declared.cursor.Position.the-variants as at
 use Rattle.frame.specs.declared.progress.Verdict.{Verdict}
-use Rattle.frame.specs.declared.progress.Reason.the-variants.{Unfinished}
+use Rattle.frame.specs.declared.progress.Reason.the-variants.{TooLong, Unfinished}
 use Rattle.frame.specs.Commands.{commandOf, addressingOf, actionOf, isAddressed, shallRead, shallWrite}
 use Rattle.frame.specs.Datagrams.{placeBy}
 use Rattle.frame.specs.Cursors.{begun, followedBy, wantedAt}
@@ -72,11 +72,18 @@ First-octets-count F =
 abbrev pub First-octets-leave : Type 0 → Type 0
 First-octets-leave F = (xs : List (Item F)) → forwarded begunFrame xs ≡ leaving begun (take 1500 xs) ++ octets (drop 1500 xs)
 
--- so a well-formed frame of at most 1,500 octets is kept if its check is good, and one cut short never is
+-- so of at most 1,500 octets a well-formed frame and a passing one are kept if the check is good, and one cut short never is
 abbrev pub Frame-is-kept : Type 0 → Type 0
 Frame-is-kept F =
     (low high : Item F) (t : Telegram F) (ts : List (Telegram F)) (padding : List (Item F)) (v : Verdict) → eqb (high .0 / 16) 1 ≡ true → AllFormed (t ∷ ts) →
     length (framed low high t ts ++ padding) ≤ 1500 → kept (fed begunFrame (framed low high t ts ++ padding)) v ≡ passes v
+
+abbrev pub Passing-is-kept : Type 0 → Type 0
+Passing-is-kept F =
+    (low high : Item F) (xs : List (Item F)) (v : Verdict) → eqb (high .0 / 16) 1 ≡ false → length (low ∷ high ∷ xs) ≤ 1500 → kept (fed begunFrame (low ∷ high ∷ xs)) v ≡ passes v
+
+abbrev pub Long-frame-is-dropped : Type 0 → Type 0
+Long-frame-is-dropped F = (xs : List (Item F)) (v : Verdict) → 1500 < length xs → kept (fed begunFrame xs) v ≡ Err TooLong
 
 abbrev pub Cut-frame-is-dropped : Type 0 → Type 0
 Cut-frame-is-dropped F =
