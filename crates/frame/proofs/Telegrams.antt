@@ -194,6 +194,6 @@ module _ {F : Type 0} where
       let long : length (t .items) ≡ length before + suc (length rest) = ap length split ∙ length-append before (x ∷ rest) in
       let here : 0 + length before ≡ length before = omega arith in
       let now = after-some (c .datagram) more t before f (omega arith) ∙ ap (λ k. to (dataFrom k (length (t .items))) (headed more t before)) here
-          ∙ ap (λ p. to p (headed more t before)) (in-data (length before) (length (t .items)) (omega arith)) in
+      ∙ ap (λ p. to p (headed more t before)) (in-data (length before) (length (t .items)) (omega arith)) in
       ap (λ p. wantedAt (after (to p (c .datagram)) (head more t ++ before) .position) (after (to p (c .datagram)) (head more t ++ before) .datagram)) e
       ∙ ap (λ s. wantedAt (s .position) (s .datagram)) now

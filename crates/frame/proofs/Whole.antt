@@ -142,9 +142,9 @@ module _ {F : Type 0} where
       let done : endedBy (after c (chain t ts) .position) ≡ true = ap endedBy (after-chain (fresh Other) t ts f) in
       ap (λ b. low .0 ∷ high .0 ∷ leaving (opened b) (chain t ts ++ padding)) e
       ∙ ap (λ l. low .0 ∷ high .0 ∷ l)
-        (emitted-append next out c (chain t ts) padding
-        ∙ (λ i. chain-leaves (fresh Other) t ts f i ++ padding-leaves (after c (chain t ts)) padding done i)
-        ∙ sym (map-append (λ x. x .0) (chain (passed t) (map passed ts)) padding))
+      (emitted-append next out c (chain t ts) padding
+      ∙ (λ i. chain-leaves (fresh Other) t ts f i ++ padding-leaves (after c (chain t ts)) padding done i)
+      ∙ sym (map-append (λ x. x .0) (chain (passed t) (map passed ts)) padding))
 
   pub frame-ends : Frame-ends F
   frame-ends low high t ts padding e f =

@@ -9,7 +9,7 @@ use Rattle.frame.specs.declared.outcome.Outcome.the-variants.{NotWanted, Done}
 use Rattle.frame.specs.declared.outcome.Accessed.{Accessed}
 use Rattle.frame.specs.declared.datagram.Wanted.{Wanted}
 use Rattle.frame.specs.declared.progress.Progress.{Progress}
-use Rattle.frame.specs.Outcomes.{unasked, replaced}
+use Rattle.frame.specs.Outcomes.{replaced}
 use Rattle.frame.specs.Frames.{wantedBy, given, answered, orSame}
 
 -- an access that is wanted is done
@@ -18,7 +18,7 @@ doneIf true x = Done x
 doneIf false x = NotWanted
 
 abbrev pub served : (holds o : ℕ) → Option Wanted → Accessed (Unit {0})
-served h o None = unasked o
+served h o None = replaced o NotWanted NotWanted
 served h o (Some w) = replaced o (doneIf (w .read) h) (doneIf (w .write) tt)
 
 abbrev pub fedNext : Addresses → (holds : ℕ) → Progress → (o : ℕ) → Progress

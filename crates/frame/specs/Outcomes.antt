@@ -19,10 +19,6 @@ worth Nothing n = 0
 worth Success n = n
 worth Failure n = 0
 
--- no access was asked for
-abbrev pub unasked : {F : Type 0} → ℕ → Accessed F
-unasked o = record { read = NotWanted; write = NotWanted; laid = o }
-
 -- a fetched octet in the place of the one that came
 abbrev pub laidWhole : {F : Type 0} → ℕ → Outcome ℕ F → ℕ
 laidWhole o NotWanted = o

@@ -100,9 +100,10 @@ impl Command {
     pub(crate) fn forwards_next(self) -> bool
         ensures { λ r. ⌜ r ≡ forwardsNext (addressingOf self) ⌝ }
     {
-        match self.addressing() {
-            Addressing::ByPosition | Addressing::Broadcast => true,
-            Addressing::ByAddress | Addressing::ByMapping | Addressing::Nobody => false,
+        match self {
+            Command::Aprd | Command::Apwr | Command::Aprw | Command::Armw => true,
+            Command::Brd | Command::Bwr | Command::Brw => true,
+            _ => false,
         }
     }
 

@@ -26,7 +26,7 @@ fn serve(wanted: Option<Wanted>, octet: u8, holds: u8) -> Accessed<()>
 {
     match wanted {
         Some(w) => Accessed::whole(octet, done_if(w.read, holds), done_if(w.write, ())),
-        None => Accessed::nothing(octet),
+        None => Accessed::whole(octet, Outcome::NotWanted, Outcome::NotWanted),
     }
 }
 
@@ -48,7 +48,7 @@ fn feed_octet(progress: &mut Progress, octet: u8, addresses: Addresses, holds: u
 }
 
 // Feeds the octets one by one, and leaves in their place what is forwarded.
-pub fn feed(progress: &mut Progress, octets: &mut [u8], addresses: Addresses, holds: u8)
+fn feed(progress: &mut Progress, octets: &mut [u8], addresses: Addresses, holds: u8)
     ensures after { λ _. ⌜ now (progress .exit) ≡ folded (fedNext addresses holds) (now (progress .entry)) (now (octets .entry)) ⌝ }
     ensures leaves { λ _. ⌜ now (octets .exit) ≡ emitted (fedNext addresses holds) (fedOctet holds) (now (progress .entry)) (now (octets .entry)) ⌝ }
 {
@@ -57,7 +57,7 @@ pub fn feed(progress: &mut Progress, octets: &mut [u8], addresses: Addresses, ho
     }
 }
 
-// One frame in place, for C.
+// One frame in place, from its beginning.
 #[unsafe(no_mangle)]
 pub extern "C" fn frame_feed(octets: &mut [u8], station: u16, alias: u16, holds: u8)
     ensures { λ _. ⌜ now (octets .exit) ≡ emitted (fedNext (record { station = station; alias = alias }) holds) (fedOctet holds) begunFrame (now (octets .entry)) ⌝ }

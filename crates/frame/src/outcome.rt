@@ -1,6 +1,6 @@
 // What came of the accesses that a data octet asked for, and what they are worth to the working counter.
 ghost use mathlib.Core.Path.{_≡_};
-ghost use Rattle.frame.specs.Outcomes.{met, worth, unasked, replaced};
+ghost use Rattle.frame.specs.Outcomes.{met, worth, replaced};
 
 // `F` is the caller's fault, whole.
 #[derive(Clone, Copy, PartialEq, Eq, Debug)]
@@ -50,18 +50,7 @@ impl Tally {
 }
 
 impl<F> Accessed<F> {
-    // For an octet that asks for no access.
-    pub fn nothing(octet: u8) -> Accessed<F>
-        ensures { λ r. ⌜ r ≡ unasked octet ⌝ }
-    {
-        Accessed {
-            read: Outcome::NotWanted,
-            write: Outcome::NotWanted,
-            laid: octet,
-        }
-    }
-
-    // For an octet that is read and written whole: one fetched takes the place of the one that came.
+    // For an octet that is accessed whole, or not at all: one fetched takes the place of the one that came.
     pub fn whole(octet: u8, read: Outcome<u8, F>, write: Outcome<(), F>) -> Accessed<F>
         ensures { λ r. ⌜ r ≡ replaced octet read write ⌝ }
     {

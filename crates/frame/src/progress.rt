@@ -76,7 +76,12 @@ impl Progress {
 
     // Takes one octet with what came of its accesses, and gives the octet that leaves. Past the first 1,500 it is refused and changes nothing
     // but the note of it: the caller forwards it as it came.
-    pub fn octet<F>(&mut self, octet: u8, addresses: Addresses, accessed: &Accessed<F>) -> Result<u8, Reason>
+    pub fn octet<F>(
+        &mut self,
+        octet: u8,
+        addresses: Addresses,
+        accessed: &Accessed<F>,
+    ) -> Result<u8, Reason>
         ensures next { λ _. ⌜ now (self .exit) ≡ given (now (self .entry)) octet addresses (now (accessed .entry) .read) (now (accessed .entry) .write) ⌝ }
         ensures answer { λ r. ⌜ r ≡ answered (now (self .entry)) octet (now (accessed .entry) .laid) ⌝ }
     {
