@@ -23,7 +23,7 @@ use Rattle.frame.specs.Commands.{commandOf, addressingOf, actionOf, isAddresse
 use Rattle.frame.specs.Outcomes.{met, worth}
 use Rattle.frame.specs.Datagrams.{pair, tallied, added, wantedFor}
 use Rattle.frame.specs.Cursors.{to, dataFrom, followedBy, carried, shown, wantedAt}
-use Rattle.frame.specs.Wire.{Item, octets, next, out, after, leaving, Telegram, Formed, head, foot, wire, concerned, refused, some, succeeds, gained, passed}
+use Rattle.frame.specs.Wire.{Item, octets, next, out, after, leaving, Telegram, Formed, head, foot, wire, reaches, concerned, refused, some, succeeds, gained, passed}
 use Rattle.frame.specs.Laws.{Datagram-leaves, Datagram-is-followed, Data-octet-asks}
 use Rattle.frame.proofs.Steps.{folded-append, emitted-append, pair-back, length-back, more-back, next-low, next-high, sum-low, sum-high}
 
@@ -70,7 +70,7 @@ headed more t xs =
       ado = t .ado;
       length = length (t .items);
       more = more;
-      addressed = isAddressed (addressingOf (commandOf (t .command))) (t .adp) (t .beside 3 .addresses);
+      addressed = reaches t;
       read = metAll Nothing (map (λ x. x .1 .accessed .read) xs);
       write = metAll Nothing (map (λ x. x .1 .accessed .write) xs);
     }

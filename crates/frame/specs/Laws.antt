@@ -11,11 +11,9 @@ use Rattle.frame.specs.declared.cursor.Cursor.{Cursor}
 use Rattle.frame.specs.declared.cursor.Position.the-variants as at
 use Rattle.frame.specs.declared.progress.Verdict.{Verdict}
 use Rattle.frame.specs.declared.progress.Reason.the-variants.{TooLong, Unfinished}
-use Rattle.frame.specs.Commands.{commandOf, addressingOf, actionOf, isAddressed, shallRead, shallWrite}
-use Rattle.frame.specs.Datagrams.{placeBy}
 use Rattle.frame.specs.Cursors.{begun, followedBy, wantedAt}
 use Rattle.frame.specs.Frames.{begunFrame, endedBy, passes, kept}
-use Rattle.frame.specs.Wire.{Item, octets, after, leaving, fed, forwarded, Telegram, Formed, AllFormed, head, wire, passed, chain, framed}
+use Rattle.frame.specs.Wire.{Item, octets, after, leaving, fed, forwarded, Telegram, Formed, AllFormed, head, wire, asks, passed, framed}
 
 -- DATAGRAMS. ADP leaves as ADP + 1 modulo 65,536 or unchanged, by command; the counter leaves as it came plus what the accesses earned,
 -- modulo 65,536; every other octet but the data leaves as it came.
@@ -28,17 +26,12 @@ abbrev pub Datagram-is-followed : Type 0 → Type 0
 Datagram-is-followed F =
     (c : Cursor) (more : Bool) (t : Telegram F) → c .position ≡ at.Command → Formed t → after c (wire more t) .position ≡ followedBy more
 
--- the data octet that follows j others asks for the place ADO + j, or the logical address + j; the station is addressed by ADP and the
--- addresses that hold as ADP's second octet arrives
+-- the data octet that follows j others asks for what data octet j shall
 abbrev pub Data-octet-asks : Type 0 → Type 0
 Data-octet-asks F =
     (c : Cursor) (more : Bool) (t : Telegram F) (before rest : List (Item F)) (x : Item F) → c .position ≡ at.Command → Formed t → t .items ≡ before ++ (x ∷ rest) →
     wantedAt (after c (head more t ++ before) .position) (after c (head more t ++ before) .datagram)
-    ≡ Some (record {
-      place = placeBy (addressingOf (commandOf (t .command))) (t .adp) (t .ado) (length before);
-      read = shallRead (actionOf (commandOf (t .command))) (isAddressed (addressingOf (commandOf (t .command))) (t .adp) (t .beside 3 .addresses));
-      write = shallWrite (actionOf (commandOf (t .command))) (isAddressed (addressingOf (commandOf (t .command))) (t .adp) (t .beside 3 .addresses));
-    })
+    ≡ Some (asks t (length before))
 
 -- FRAMES. A passing frame and padding leave as they came.
 abbrev pub Padding-leaves : Type 0 → Type 0

@@ -9,9 +9,11 @@ use Rattle.frame.specs.declared.command.Addresses.{Addresses}
 use Rattle.frame.specs.declared.outcome.Outcome.{Outcome}
 use Rattle.frame.specs.declared.outcome.Outcome.the-variants.{NotWanted, Done, Refused}
 use Rattle.frame.specs.declared.outcome.Accessed.{Accessed}
+use Rattle.frame.specs.declared.datagram.Wanted.{Wanted}
 use Rattle.frame.specs.declared.cursor.Cursor.{Cursor}
 use Rattle.frame.specs.declared.progress.Progress.{Progress}
-use Rattle.frame.specs.Commands.{commandOf, addressingOf, actionOf, forwardsNext, writeWorth}
+use Rattle.frame.specs.Commands.{commandOf, addressingOf, actionOf, isAddressed, forwardsNext, shallRead, shallWrite, writeWorth}
+use Rattle.frame.specs.Datagrams.{placeBy}
 use Rattle.frame.specs.Cursors.{advanced, leavesOf, shown}
 use Rattle.frame.specs.Frames.{given, answered, orSame}
 use Rattle.frame.specs.Runs.{emitted}
@@ -96,6 +98,19 @@ foot t = (t .counter % 256, t .beside 10) ∷ (t .counter / 256, t .beside 11) �
 
 abbrev pub wire : {F : Type 0} → (more : Bool) → Telegram F → List (Item F)
 wire more t = head more t ++ (t .items ++ foot t)
+
+-- WHAT IT ASKS FOR: the station is addressed by ADP and the addresses that hold as ADP's second octet arrives
+abbrev pub reaches : {F : Type 0} → Telegram F → Bool
+reaches t = isAddressed (addressingOf (commandOf (t .command))) (t .adp) (t .beside 3 .addresses)
+
+-- data octet j asks for the place ADO + j, or the logical address + j
+abbrev pub asks : {F : Type 0} → Telegram F → (index : ℕ) → Wanted
+asks t j =
+    record {
+      place = placeBy (addressingOf (commandOf (t .command))) (t .adp) (t .ado) j;
+      read = shallRead (actionOf (commandOf (t .command))) (reaches t);
+      write = shallWrite (actionOf (commandOf (t .command))) (reaches t);
+    }
 
 -- WHAT IT EARNS: a direction succeeds if it concerned at least one octet and none was refused
 abbrev pub concerned : {X F : Type 0} → Outcome X F → Bool
