@@ -3,7 +3,6 @@ use mathlib.Core.Path.{_≡_}
 use mathlib.Core.Bool.{true, false}
 use mathlib.Core.List.{List, [], _∷_, map}
 use Prim.Native.Nat.{ℕ}
-use Rattle.frame.specs.declared.command.Addresses.{Addresses}
 use Rattle.frame.specs.declared.outcome.Outcome.the-variants.{NotWanted, Done}
 use Rattle.frame.specs.declared.outcome.Accessed.{Accessed}
 use Rattle.frame.specs.Outcomes.{replaced}

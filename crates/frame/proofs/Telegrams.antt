@@ -1,5 +1,5 @@
 -- The laws of one datagram.
-use mathlib.Core.Path.{_≡_, refl, sym, ap, subst, _∙_}
+use mathlib.Core.Path.{_≡_, refl, sym, ap, _∙_}
 use mathlib.Core.List.{List, [], _∷_, _++_, map}
 use mathlib.Core.Bool.{Bool, true, false, cond, not}
 use Prim.Native.Nat.{ℕ, suc, _+_, _*_, _/_, _%_, _≤_, _<_}
@@ -7,8 +7,6 @@ use native.Mathlib.Omega.{arith}
 use lib.Dec.{ltb, lit<}
 use lib.ListN.{length}
 use borrow.Author.Tests.{lt-ltb, le-ltb}
-use Rattle.std.specs.Iters.{folded}
-use Rattle.std.specs.declared.option.Option.the-variants.{Some}
 use Rattle.std.proofs.shelf.Lists.{length-map, length-append, map-append, append-assoc}
 use Rattle.frame.specs.declared.command.Action.{Action}
 use Rattle.frame.specs.declared.command.Action.the-variants.{Read, Write, ReadWrite, ReadOrWrite, Nothing as NoAction}
@@ -18,12 +16,11 @@ use Rattle.frame.specs.declared.outcome.Tally.{Tally}
 use Rattle.frame.specs.declared.outcome.Tally.the-variants.{Nothing, Success, Failure}
 use Rattle.frame.specs.declared.datagram.Datagram.{Datagram}
 use Rattle.frame.specs.declared.cursor.Position.the-variants as at
-use Rattle.frame.specs.declared.cursor.Cursor.{Cursor}
 use Rattle.frame.specs.Commands.{commandOf, addressingOf, actionOf, isAddressed, forwardsNext, writeWorth}
 use Rattle.frame.specs.Outcomes.{met, worth}
-use Rattle.frame.specs.Datagrams.{pair, tallied, added, wantedFor}
+use Rattle.frame.specs.Datagrams.{tallied, added}
 use Rattle.frame.specs.Cursors.{to, dataFrom, followedBy, carried, shown, wantedAt}
-use Rattle.frame.specs.Wire.{Item, octets, next, out, after, leaving, Telegram, Formed, head, foot, wire, reaches, concerned, refused, some, succeeds, gained, passed}
+use Rattle.frame.specs.Wire.{Item, octets, next, out, after, leaving, Telegram, Formed, head, foot, wire, reaches, refused, some, succeeds, gained, passed}
 use Rattle.frame.specs.Laws.{Datagram-leaves, Datagram-is-followed, Data-octet-asks}
 use Rattle.frame.proofs.Steps.{folded-append, emitted-append, pair-back, length-back, more-back, next-low, next-high, sum-low, sum-high}
 

@@ -1,13 +1,12 @@
 -- The laws of whole frames.
-use mathlib.Core.Path.{_≡_, refl, sym, ap, subst, _∙_}
+use mathlib.Core.Path.{_≡_, refl, sym, ap, _∙_}
 use mathlib.Core.List.{List, [], _∷_, _++_, map}
 use mathlib.Core.Bool.{Bool, true, false, cond}
-use Prim.Native.Nat.{ℕ, zero, suc, min, _+_, _/_, _%_, _≤_, _<_}
+use Prim.Native.Nat.{ℕ, zero, suc, min, _+_, _/_, _%_, _≤_}
 use native.Mathlib.Omega.{arith}
-use lib.Dec.{eqb, ltb}
+use lib.Dec.{ltb}
 use lib.ListN.{length, take, drop}
 use borrow.Author.Tests.{lt-ltb, le-ltb, clash}
-use Rattle.std.specs.declared.result.Result.{Result}
 use Rattle.std.specs.declared.result.Result.the-variants.{Ok, Err}
 use Rattle.std.proofs.shelf.Lists.{length-append, length-take, map-append, append-assoc, take-append-le, take-append-drop, take-all}
 use Rattle.std.proofs.shelf.Ways.{tells}
@@ -18,12 +17,11 @@ use Rattle.frame.specs.declared.cursor.Position.the-variants as at
 use Rattle.frame.specs.declared.cursor.Cursor.{Cursor}
 use Rattle.frame.specs.declared.progress.Progress.{Progress}
 use Rattle.frame.specs.declared.progress.Verdict.{Verdict}
-use Rattle.frame.specs.declared.progress.Reason.{Reason}
 use Rattle.frame.specs.declared.progress.Reason.the-variants.{TooLong, Unfinished}
 use Rattle.frame.specs.Datagrams.{fresh}
-use Rattle.frame.specs.Cursors.{to, begun, nextAt, leavesAt, followedBy}
-use Rattle.frame.specs.Frames.{begunFrame, hasRoom, endedBy, passes, kept, orSame, answered}
-use Rattle.frame.specs.Wire.{Item, octets, next, out, after, leaving, nextFrame, outFrame, fed, forwarded, Telegram, Formed, AllFormed, head, foot, wire, passed, chain, framed}
+use Rattle.frame.specs.Cursors.{to, begun, nextAt, leavesAt}
+use Rattle.frame.specs.Frames.{begunFrame, endedBy, passes, kept, orSame}
+use Rattle.frame.specs.Wire.{Item, octets, next, out, after, leaving, fed, forwarded, Telegram, AllFormed, head, foot, wire, passed, chain, framed}
 use Rattle.frame.specs.Laws.{Padding-leaves, Passing-leaves, Frame-leaves, Frame-ends, Cut-frame-does-not-end, First-octets-count, First-octets-leave, Frame-is-kept, Passing-is-kept, Long-frame-is-dropped, Cut-frame-is-dropped}
 use Rattle.frame.proofs.Steps.{folded-append, emitted-append}
 use Rattle.frame.proofs.Telegrams.{headed, after-items, after-wire, wire-leaves}

@@ -1,13 +1,12 @@
 -- The datagram as its octets come, what its data octets ask for, and what it adds to its counter.
 use Prim.Native.Nat.{ℕ, _+_, _*_, _%_}
-use mathlib.Core.Bool.{Bool, true, false}
+use mathlib.Core.Bool.{false}
 use lib.Dec.{leb}
 use Rattle.frame.specs.declared.command.Command.{Command}
 use Rattle.frame.specs.declared.command.Addressing.{Addressing}
 use Rattle.frame.specs.declared.command.Addressing.the-variants.{ByPosition, ByAddress, Broadcast, ByMapping, Nobody}
 use Rattle.frame.specs.declared.command.Addresses.{Addresses}
 use Rattle.frame.specs.declared.outcome.Outcome.{Outcome}
-use Rattle.frame.specs.declared.outcome.Tally.{Tally}
 use Rattle.frame.specs.declared.outcome.Tally.the-variants.{Nothing}
 use Rattle.frame.specs.declared.datagram.Datagram.{Datagram}
 use Rattle.frame.specs.declared.datagram.Place.{Place}

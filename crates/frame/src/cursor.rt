@@ -1,7 +1,7 @@
 // Where in its frame the next octet stands, and what becomes of that octet.
 ghost use mathlib.Core.Path.{_≡_};
 ghost use mathlib.Core.Bool.{_&&_};
-ghost use Prim.Native.Nat.{ℕ, _+_, _%_};
+ghost use Prim.Native.Nat.{_+_, _%_};
 ghost use lib.Dec.{eqb, ltb};
 ghost use Rattle.frame.specs.Cursors.{to, begun, dataFrom, followedBy, carried, shown, advanced, leavesOf, wantedAt};
 ghost use Rattle.frame.specs.Datagrams.{pair, fresh, judged, offset, measured, tallied, added};

@@ -1,8 +1,6 @@
 // The datagram that a frame stands in, as its octets came so far.
 ghost use mathlib.Core.Path.{_≡_};
-ghost use Prim.Native.Nat.{ℕ};
 ghost use Rattle.frame.specs.Datagrams.{fresh, added, tallied, placeOf, wantedFor};
-use crate::command::Addresses;
 use crate::command::Addressing;
 use crate::command::Command;
 use crate::outcome::Accessed;
