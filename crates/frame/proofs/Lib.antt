@@ -1,0 +1,4 @@
+pub mod InPlace
+pub mod Steps
+pub mod Telegrams
+pub mod Whole

@@ -1,0 +1,9 @@
+pub mod Commands
+pub mod Outcomes
+pub mod Datagrams
+pub mod Cursors
+pub mod Frames
+pub mod Runs
+pub mod Feeding
+pub mod Wire
+pub mod Laws
