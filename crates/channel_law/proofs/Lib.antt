@@ -8,4 +8,3 @@ pub mod Keeps
 pub mod Whole
 pub mod Sound
 pub mod Others
-pub mod Many

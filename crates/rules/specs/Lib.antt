@@ -1,0 +1,9 @@
+pub mod Data
+pub mod Faults
+pub mod Registers
+pub mod Questions
+pub mod Enabling
+pub mod Octets
+pub mod Steps
+pub mod Account
+pub mod Promise
