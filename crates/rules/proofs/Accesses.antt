@@ -105,7 +105,11 @@ both-of m cs ts x n k f (Some c) (Some t) so st h e ok =
     let all : channel.asked (factsOf c) (x .side) (x .direction) k ≡ Ok k =
     ap (λ (g : Facts). channel.asked g (x .side) (x .direction) k) agree ∙ (ap (channel.asked f (x .side) (x .direction)) at ∙ ok) in
     record {
-      service = c; story = t; service-at = so; story-at = st; held = h;
+      service = c;
+      story = t;
+      service-at = so;
+      story-at = st;
+      held = h;
       offset = at ∙ ap (λ (g : Facts). offsetIn (g .window) (x .address)) (sym is);
       ok = all;
       within = allowed (factsOf c) (x .side) (x .direction) k k all .in-window;
@@ -234,7 +238,7 @@ module _ (N : ℕ) (s : Station) (ts : List (Option Story)) (size : length (s .o
       (record {
         long = length-set cs n _ ∙ (h .long ∙ sym (length-set ts n _));
         held = pairs-set-in (HeldIn after) outOfService None cs ts n (inServiceAs (afterStore c k)) (Some (storedAt k o t)) (let z = h .long in omega arith) within
-        (λ i ne. other-if n k o c t (b .held) (b .within) (serviceAt cs i) (storyAt ts i) (subst (λ w. ApartIf w (windowAt ts i)) (ap storyWindow (b .story-at)) (h .apart n i (λ q. ne (sym q)))) (h .held i)) new;
+            (λ i ne. other-if n k o c t (b .held) (b .within) (serviceAt cs i) (storyAt ts i) (subst (λ w. ApartIf w (windowAt ts i)) (ap storyWindow (b .story-at)) (h .apart n i (λ q. ne (sym q)))) (h .held i)) new;
         apart = apart-as ts (set ts n (Some (storedAt k o t))) (windows-set ts n t (storedAt k o t) (b .story-at) (stored-window k o t)) (h .apart);
       }))
 

@@ -75,7 +75,12 @@ module _ (N : ℕ) (small : N ≤ 61440) (s : Station) (ts : List (Option Story)
           subst (λ (q : Reply ℕ). Goes N number a (ReadAt p) (readStep (q .after) (q .says))) (sym is)
           (record {
             held = record {
-              small = small; size = size; same-number = rest .number; registers = rest .registers; alias = rest .alias; running = rest .running;
+              small = small;
+              size = size;
+              same-number = rest .number;
+              registers = rest .registers;
+              alias = rest .alias;
+              running = rest .running;
               channels = subst (Channels (s .octets) (c .channels)) (ap (toldAt (λ k. fetchedAt k v) ts) (sym e)) ch;
               past = whole;
             };
@@ -93,7 +98,12 @@ module _ (N : ℕ) (small : N ≤ 61440) (s : Station) (ts : List (Option Story)
           subst (λ (q : Reply (Unit {0})). Goes N number a (WriteAt p o) (writeStep (q .after) p o (q .says))) (sym is)
           (record {
             held = record {
-              small = small; size = len ∙ size; same-number = rest .number; registers = rest .registers; alias = ap (λ l. withAlias l (registerOf p) o) (rest .alias); running = rest .running;
+              small = small;
+              size = len ∙ size;
+              same-number = rest .number;
+              registers = rest .registers;
+              alias = ap (λ l. withAlias l (registerOf p) o) (rest .alias);
+              running = rest .running;
               channels = subst (Channels (t .octets) (t .core .channels)) (ap (toldAt (λ k. storedAt k o) ts) (sym e)) ch;
               past = whole;
             };
@@ -115,9 +125,14 @@ module _ (N : ℕ) (small : N ≤ 61440) (s : Station) (ts : List (Option Story)
       let none : (d : Direction) → accesses number a (Octet n o) d ≡ [] = λ d. ap (λ q. frameAccesses (s .core .registers) q d) e in
       record {
         held = record {
-          small = small; size = size; same-number = refl; registers = refl; alias = refl;
+          small = small;
+          size = size;
+          same-number = refl;
+          registers = refl;
+          alias = refl;
           running = sym (ap (refusedOctet a (Octet n o)) e);
-          channels = h; past = whole;
+          channels = h;
+          past = whole;
         };
         answered = record {
           as-asked = sym (ap (dueOctet o _ _) e);
@@ -160,9 +175,14 @@ module _ (N : ℕ) (small : N ≤ 61440) (s : Station) (ts : List (Option Story)
         (subst (λ (y : Answer). Goes N number a (Octet n o) (over (withRunning (s .core) (Some (givenRunning regs (s .core .alias) f o NotWanted NotWanted))) (s .octets), y)) (sym (ap (octetAnswer NotWanted NotWanted) (too-long o)))
         (record {
           held = record {
-            small = small; size = size; same-number = refl; registers = refl; alias = refl;
+            small = small;
+            size = size;
+            same-number = refl;
+            registers = refl;
+            alias = refl;
             running = sym (ap (refusedOctet a (Octet n o)) e ∙ next-told NotWanted NotWanted);
-            channels = h; past = whole;
+            channels = h;
+            past = whole;
           };
           answered = record {
             as-asked = sym (due-answer o _ _ (mine number n (s .core .running)) f e (Err TooLong) (too-long 0));
@@ -230,8 +250,14 @@ module _ (N : ℕ) (small : N ≤ 61440) (s : Station) (ts : List (Option Story)
     ends (Err why) is =
         record {
           held = record {
-            small = small; size = size; same-number = refl; registers = refl; alias = refl; running = refl;
-            channels = all-dropped (s .octets) (s .core .channels) ts h; past = whole;
+            small = small;
+            size = size;
+            same-number = refl;
+            registers = refl;
+            alias = refl;
+            running = refl;
+            channels = all-dropped (s .octets) (s .core .channels) ts h;
+            past = whole;
           };
           answered = record { as-asked = sym (ap (dueEnd N ts v) e ∙ ap (dueVerdict (keptStories N (f .waiting) ts .denied)) is); reads = tt; writes = tt };
         }
@@ -244,14 +270,17 @@ module _ (N : ℕ) (small : N ≤ 61440) (s : Station) (ts : List (Option Story)
         let goes : Goes N number a (End n v) (keptStation s r (keptChannels N r cs)) =
         record {
           held =
-          subst (λ (q : Registers). Held N number (keptStation s r (keptChannels N r cs) .0) (keptAccount a q (keptStories N q ts))) (sym waits)
-          (record {
-            small = small; size = size; same-number = refl;
-            registers = ap (withSettings r) (alike .settings);
-            alias = refl; running = refl;
-            channels = alike .channels;
-            past = past-whole m (r .settings) (map _ cs) (map (mapped keptStory) ts) (all-kept m cs ts h) past whole;
-          });
+              subst (λ (q : Registers). Held N number (keptStation s r (keptChannels N r cs) .0) (keptAccount a q (keptStories N q ts))) (sym waits)
+              (record {
+                small = small;
+                size = size;
+                same-number = refl;
+                registers = ap (withSettings r) (alike .settings);
+                alias = refl;
+                running = refl;
+                channels = alike .channels;
+                past = past-whole m (r .settings) (map _ cs) (map (mapped keptStory) ts) (all-kept m cs ts h) past whole;
+              });
           answered = record { as-asked = ap Kept (alike .denied) ∙ sym (ap (dueEnd N ts v) e ∙ ap (dueVerdict (keptStories N r ts .denied)) is); reads = tt; writes = tt };
         } in
         subst (λ k. Goes N number a (End n v) (keptStation s r (keptChannels k r cs))) (sym size) goes

@@ -57,8 +57,8 @@ module _ (m : List ℕ) (f : Service → Service) (g : Story → Story) (keeps :
       record {
         long = map-length each cs ∙ (h .long ∙ sym (map-length (mapped g) ts));
         held = λ n.
-        subst (λ c. HeldIn m c (storyAt (map (mapped g) ts) n)) (sym (map-at each cs n outOfService))
-        (subst (HeldIf m (mapped f (serviceAt cs n))) (sym (map-at (mapped g) ts n None)) (each-if (serviceAt cs n) (storyAt ts n) (h .held n)));
+            subst (λ c. HeldIn m c (storyAt (map (mapped g) ts) n)) (sym (map-at each cs n outOfService))
+            (subst (HeldIf m (mapped f (serviceAt cs n))) (sym (map-at (mapped g) ts n None)) (each-if (serviceAt cs n) (storyAt ts n) (h .held n)));
         apart = apart-as ts (map (mapped g) ts) (λ i. ap storyWindow (map-at (mapped g) ts i None) ∙ window-if (storyAt ts i)) (h .apart);
       }
 
@@ -106,12 +106,12 @@ all-lasting m ss cs ts h =
     record {
       long = lasting-long windowIn begunChannel outOfService storyWindow begunStory None ss cs ts (h .long);
       held = λ n.
-      subst (λ c. HeldIn m c (storyAt (lasting storyWindow begunStory None ss ts) n)) (sym (lasting-at windowIn begunChannel outOfService ss cs n))
-      (subst (HeldIn m (cond (getD ss n noSetting .enable) (getD cs n outOfService) outOfService)) (sym (stories n)) (cond-held m (getD ss n noSetting .enable) (getD cs n outOfService) (storyAt ts n) (h .held n)));
+          subst (λ c. HeldIn m c (storyAt (lasting storyWindow begunStory None ss ts) n)) (sym (lasting-at windowIn begunChannel outOfService ss cs n))
+          (subst (HeldIn m (cond (getD ss n noSetting .enable) (getD cs n outOfService) outOfService)) (sym (stories n)) (cond-held m (getD ss n noSetting .enable) (getD cs n outOfService) (storyAt ts n) (h .held n)));
       apart = λ i j ne.
-      subst (λ t. ApartIf (storyWindow t) (windowAt (lasting storyWindow begunStory None ss ts) j)) (sym (stories i))
-      (subst (λ t. ApartIf (storyWindow (cond (getD ss i noSetting .enable) (storyAt ts i) None)) (storyWindow t)) (sym (stories j))
-      (apart-cond (getD ss i noSetting .enable) (getD ss j noSetting .enable) (storyAt ts i) (storyAt ts j) (h .apart i j ne)));
+          subst (λ t. ApartIf (storyWindow t) (windowAt (lasting storyWindow begunStory None ss ts) j)) (sym (stories i))
+          (subst (λ t. ApartIf (storyWindow (cond (getD ss i noSetting .enable) (storyAt ts i) None)) (storyWindow t)) (sym (stories j))
+          (apart-cond (getD ss i noSetting .enable) (getD ss j noSetting .enable) (storyAt ts i) (storyAt ts j) (h .apart i j ne)));
     }
 
 ended-whole : (ss : List Setting) (ts : List (Option Story)) → ((n : ℕ) (t : Story) → storyAt ts n ≡ Some t → law.Whole t) → (past : List Story) → All law.Whole past → All law.Whole (ended ss ts ++ past)
@@ -184,9 +184,9 @@ apart-set w ts n within d h i j ne =
     let q : j ≢ n = λ e. ne (is ∙ sym e) in
     subst (λ v. ApartIf v (windowAt us j)) (sym (ap (windowAt us) is ∙ here)) (subst (ApartIf (Some w)) (sym (there j q)) (apart-new w ts d j)))
     (λ p. ⊎-elim
-      (λ is. subst (λ v. ApartIf v (windowAt us j)) (sym (there i p)) (subst (ApartIf (windowAt ts i)) (sym (ap (windowAt us) is ∙ here)) (apart-sym w (windowAt ts i) (apart-new w ts d i))))
-      (λ q. subst (λ v. ApartIf v (windowAt us j)) (sym (there i p)) (subst (ApartIf (windowAt ts i)) (sym (there j q)) (h i j ne)))
-      (cases-eq j n))
+    (λ is. subst (λ v. ApartIf v (windowAt us j)) (sym (there i p)) (subst (ApartIf (windowAt ts i)) (sym (ap (windowAt us) is ∙ here)) (apart-sym w (windowAt ts i) (apart-new w ts d i))))
+    (λ q. subst (λ v. ApartIf v (windowAt us j)) (sym (there i p)) (subst (ApartIf (windowAt ts i)) (sym (there j q)) (h i j ne)))
+    (cases-eq j n))
     (cases-eq i n)
 
 apart-any : (w : Window) (ts : List (Option Story)) (n : ℕ) → DisjointAll w (map byStory ts) → ((i j : ℕ) → i ≢ j → ApartIf (windowAt ts i) (windowAt ts j)) →

@@ -70,7 +70,13 @@ replicate-at (suc k) (suc n) x = replicate-at k n x
 pub first : (m : List ℕ) (number : ℕ) → length m ≤ 61440 → Held (length m) number (station m number) nothing
 first m number small =
     record {
-      small = small; size = refl; same-number = refl; registers = refl; alias = refl; running = refl; past = tt;
+      small = small;
+      size = refl;
+      same-number = refl;
+      registers = refl;
+      alias = refl;
+      running = refl;
+      past = tt;
       channels = record {
         long = refl;
         held = λ n. subst (λ c. HeldIn m c (storyAt (replicate 8 None) n)) (sym (replicate-at 8 n outOfService)) (subst (HeldIf m None) (sym (replicate-at 8 n None)) tt);

@@ -1,6 +1,4 @@
 pub mod Lists
-
-
 pub mod Reached
 pub mod Held
 pub mod Accesses

@@ -31,15 +31,15 @@ pub pairs-set : {X Y : Type 0} (P : X → Y → Type 0) (d : X) (e : Y) (xs : Li
 pairs-set P d e xs ys n x y long all here i =
     ⊎-elim
     (λ is. ⊎-elim
-      (λ within.
-      let a : getD (set xs n x) i d ≡ x = ap (λ k. getD (set xs n x) k d) is ∙ getD-set-same xs n x d within in
-      let b : getD (set ys n y) i e ≡ y = ap (λ k. getD (set ys n y) k e) is ∙ getD-set-same ys n y e (omega arith) in
-      subst (λ z. P z (getD (set ys n y) i e)) (sym a) (subst (P x) (sym b) here))
-      (λ past.
-      let a : set xs n x ≡ xs = set-past xs n x past in
-      let b : set ys n y ≡ ys = set-past ys n y (omega arith) in
-      subst (λ z. P (getD z i d) (getD (set ys n y) i e)) (sym a) (subst (λ z. P (getD xs i d) (getD z i e)) (sym b) (all i)))
-      (cases-lt n (length xs)))
+    (λ within.
+    let a : getD (set xs n x) i d ≡ x = ap (λ k. getD (set xs n x) k d) is ∙ getD-set-same xs n x d within in
+    let b : getD (set ys n y) i e ≡ y = ap (λ k. getD (set ys n y) k e) is ∙ getD-set-same ys n y e (omega arith) in
+    subst (λ z. P z (getD (set ys n y) i e)) (sym a) (subst (P x) (sym b) here))
+    (λ past.
+    let a : set xs n x ≡ xs = set-past xs n x past in
+    let b : set ys n y ≡ ys = set-past ys n y (omega arith) in
+    subst (λ z. P (getD z i d) (getD (set ys n y) i e)) (sym a) (subst (λ z. P (getD xs i d) (getD z i e)) (sym b) (all i)))
+    (cases-lt n (length xs)))
     (λ apart.
     let a : getD (set xs n x) i d ≡ getD xs i d = getD-set-other xs n i x d apart in
     let b : getD (set ys n y) i e ≡ getD ys i e = getD-set-other ys n i y e apart in

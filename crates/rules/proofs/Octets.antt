@@ -170,7 +170,8 @@ module _ (N : ℕ) (small : N ≤ 61440) where
         go (write-done g t e is rest len ch) =
             subst (λ (q : Reply (Unit {0})). WritesDone N s ts o (x ∷ []) (writeOne (begun-writes s) (q .after) (q .says))) (sym is)
             (record {
-              rest = rest; size = len;
+              rest = rest;
+              size = len;
               channels = subst (Channels (t .octets) (t .core .channels)) (ap (toldAt (λ k. storedAt k o) ts) (sym e)) ch;
               due = sym (ap (alsoAsked tt NotWanted) e);
               words = words-as false (ap errs e);
@@ -194,7 +195,9 @@ module _ (N : ℕ) (small : N ≤ 61440) where
           let r = more u size h in
           subst (λ (q : Reply ℕ). PartsRead ts (x ∷ xs) t (readAll (readOne x t (q .after) (q .says)) xs)) (sym is)
           (record {
-            rest = r .rest; octets = r .octets; channels = r .channels;
+            rest = r .rest;
+            octets = r .octets;
+            channels = r .channels;
             due = r .due ∙ ap (λ w. askedAll N (told ts) 0 w xs) (bare-refused (t .outcome) f ∙ sym (ap (alsoAsked 0 (bare (t .outcome))) e));
           })
       go (read-done g v c e is rest ch) more =
@@ -203,7 +206,9 @@ module _ (N : ℕ) (small : N ≤ 61440) where
           let r = more u size (subst (Channels (t .after .octets) (c .channels)) quiet ch) in
           subst (λ (q : Reply ℕ). PartsRead ts (x ∷ xs) t (readAll (readOne x t (q .after) (q .says)) xs)) (sym is)
           (record {
-            rest = rest-trans rest (r .rest); octets = r .octets; channels = r .channels;
+            rest = rest-trans rest (r .rest);
+            octets = r .octets;
+            channels = r .channels;
             due = r .due ∙ ap (λ w. askedAll N (told ts) 0 w xs) (bare-done (t .outcome) (laid (x .share) (t .gathered) v) ∙ sym (ap (alsoAsked 0 (bare (t .outcome))) e));
           })
 
@@ -224,7 +229,9 @@ module _ (N : ℕ) (small : N ≤ 61440) where
           let r = more u size h in
           subst (λ (q : Reply (Unit {0})). PartsWritten ts (x ∷ xs) t (writeAll (writeOne t (q .after) (q .says)) o xs)) (sym is)
           (record {
-            rest = r .rest; size = r .size; channels = r .channels;
+            rest = r .rest;
+            size = r .size;
+            channels = r .channels;
             due = r .due ∙ ap (λ w. askedAll N (told ts) tt w xs) (sym (ap (alsoAsked tt (t .outcome)) e));
           })
       go (write-done g b e is rest len ch) more =
@@ -233,7 +240,9 @@ module _ (N : ℕ) (small : N ≤ 61440) where
           let r = more u (len ∙ size) (subst (Channels (b .octets) (b .core .channels)) quiet ch) in
           subst (λ (q : Reply (Unit {0})). PartsWritten ts (x ∷ xs) t (writeAll (writeOne t (q .after) (q .says)) o xs)) (sym is)
           (record {
-            rest = rest-trans rest (r .rest); size = r .size ∙ len; channels = r .channels;
+            rest = rest-trans rest (r .rest);
+            size = r .size ∙ len;
+            channels = r .channels;
             due = r .due ∙ ap (λ w. askedAll N (told ts) tt w xs) (sym (ap (alsoAsked tt (t .outcome)) e));
           })
 
@@ -245,7 +254,8 @@ module _ (N : ℕ) (small : N ≤ 61440) where
     reads-done (inr parts) ways =
         let p = parts-reads ts xs parts ways (begun-reads s o) size h in
         record {
-          rest = p .rest; octets = p .octets;
+          rest = p .rest;
+          octets = p .octets;
           channels = subst (Channels (s .octets) (readsFrom s o xs .after .core .channels)) (sym (parts-read N ts xs parts (readsFrom s o xs .outcome))) (p .channels);
           due = p .due;
           words = parts-words ts (failed (readsFrom s o xs .outcome)) xs parts;
@@ -257,7 +267,8 @@ module _ (N : ℕ) (small : N ≤ 61440) where
     writes-done (inr parts) ways =
         let p = parts-writes ts o xs parts ways (begun-writes s) size h in
         record {
-          rest = p .rest; size = p .size;
+          rest = p .rest;
+          size = p .size;
           channels = subst (Channels (writesFrom s o xs .after .octets) (writesFrom s o xs .after .core .channels)) (sym (parts-written N ts xs parts o (writesFrom s o xs .outcome))) (p .channels);
           due = p .due;
           words = parts-words ts (failed (writesFrom s o xs .outcome)) xs parts;
