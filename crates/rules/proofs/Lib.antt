@@ -7,3 +7,4 @@ pub mod Octets
 pub mod Ends
 pub mod Calls
 pub mod Law
+pub mod After

@@ -7,3 +7,4 @@ pub mod Octets
 pub mod Steps
 pub mod Account
 pub mod Promise
+pub mod After
