@@ -1,0 +1,4 @@
+pub mod Known
+pub mod Waits
+pub mod Judging
+pub mod Lasting

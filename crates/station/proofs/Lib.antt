@@ -1,0 +1,4 @@
+pub mod Refused
+pub mod Loops
+pub mod Given
+pub mod Running
