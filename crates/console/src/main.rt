@@ -1,7 +1,18 @@
-// Plays a script of reads and writes on memories of each kind, and prints what each answers.
+// Plays a script of calls on a new station, and prints what each call answers and what the memory holds at the end.
+mod line;
+mod script;
+mod shown;
+mod words;
+
+use crate::line::Kind;
+use crate::script::Item;
+use crate::script::Script;
+use crate::shown::Answered;
+use crate::shown::AnsweredDisplay;
+use crate::shown::Asked;
+use crate::shown::AskedDisplay;
 use memory::LIMIT;
 use memory::Memory;
-use memory::fault::MemoryFault;
 use memory::joined::Joined;
 use memory::joined::JoinedMemory;
 use memory::row::Row;
@@ -11,121 +22,68 @@ use memory::words::WordsMemory;
 use std::alloc::Global;
 use std::error::AnyError;
 use std::io;
+use std::io::BufRead;
+use std::io::BufReader;
+use std::io::BufWriter;
+use std::io::Write;
 
-// The memory that a script asks for: octets in a row, words, or a row followed by words.
-#[derive(Clone, Copy)]
-enum Kind {
-    Octets { octets: u32 },
-    Words { words: u32 },
-    Joined { octets: u32, words: u32 },
-}
+// Octets that a row of output shows.
+const WIDTH: u32 = 16;
 
-#[derive(Clone, Copy)]
-enum Line {
-    Memory(Kind),
-    Read { place: u32 },
-    Write { place: u32, octet: u8 },
-    Unreadable { number: u64 },
-}
-
-// A number: decimal, or hexadecimal after 0x.
-fn number(word: &str) -> Option<u32> {
-    match word.strip_prefix("0x") {
-        Some(digits) => u32::from_str_radix(digits, 16).ok(),
-        None => word.parse::<u32>().ok(),
-    }
-}
-
-// An octet: two hexadecimal digits.
-fn octet(word: &str) -> Option<u8> {
-    if word.len() == 2 {
-        u8::from_str_radix(word, 16).ok()
-    } else {
-        None
-    }
-}
-
-fn made(kind: &str, size: &str) -> Option<Line> {
-    let size = number(size)?;
-    match kind {
-        "octets" => Some(Line::Memory(Kind::Octets { octets: size })),
-        "words" => Some(Line::Memory(Kind::Words { words: size })),
-        _ => None,
-    }
-}
-
-// What a line says, if it can be read. A script passes over blank lines and lines that begin with #.
-fn line_of(text: &str) -> Option<Line> {
-    let mut words = text.split_whitespace();
-    match (
-        words.next(),
-        words.next(),
-        words.next(),
-        words.next(),
-        words.next(),
-    ) {
-        (Some("memory"), Some("joined"), Some(octets), Some(words), None) =>
-            Some(Line::Memory(Kind::Joined {
-                octets: number(octets)?,
-                words: number(words)?,
-            })),
-        (Some("memory"), Some(kind), Some(size), None, None) => made(kind, size),
-        (Some("read"), Some(place), None, None, None) => Some(Line::Read {
-            place: number(place)?,
-        }),
-        (Some("write"), Some(place), Some(stored), None, None) => Some(Line::Write {
-            place: number(place)?,
-            octet: octet(stored)?,
-        }),
-        _ => None,
-    }
-}
-
-fn is_passed_over(text: &str) -> bool {
-    let text = text.trim();
-    text.is_empty() || text.starts_with("#")
-}
-
-fn print_refusal(rt: &impl Print, fault: MemoryFault) -> io::Result<()> {
-    let number = fault.number();
-    let place = fault.place();
-    println!(rt, "refused {number} at place {place}")
-}
-
-fn print_read<M: Memory>(rt: &impl Print, memory: &mut M, place: u32) -> io::Result<()> {
-    print!(rt, "read {place}: ")?;
-    match memory.read(place) {
-        Ok(octet) => println!(rt, "{octet:02X}"),
-        Err(fault) => print_refusal(rt, fault),
-    }
-}
-
-fn print_write<M: Memory>(
-    rt: &impl Print,
-    memory: &mut M,
-    place: u32,
-    octet: u8,
-) -> io::Result<()> {
-    print!(rt, "write {place} {octet:02X}: ")?;
-    match memory.write(place, octet) {
-        Ok(()) => println!(rt, "done"),
-        Err(fault) => print_refusal(rt, fault),
-    }
-}
-
-// Plays the lines up to the next that asks for another memory.
-fn play<M: Memory>(rt: &impl Print, memory: &mut M, lines: &[Line]) -> io::Result<()> {
-    let size = memory.size();
-    println!(rt, "memory: {size} octets")?;
-    for line in lines {
-        match *line {
-            Line::Memory(_) => return Ok(()),
-            Line::Read { place } => print_read(rt, memory, place)?,
-            Line::Write { place, octet } => print_write(rt, memory, place, octet)?,
-            Line::Unreadable { number } => println!(rt, "line {number}: cannot be read")?,
+// A line for each call and for each line of the script that cannot be read.
+fn print_answers(out: &mut impl Write, script: &Script) -> io::Result<()> {
+    let entries = script.entries();
+    let mut next = 0usize;
+    for item in script.items() {
+        match *item {
+            Item::Unreadable { line } => writeln!(out, "line {line}: cannot be read")?,
+            Item::Call => {
+                if let Some(entry) = entries.get(next) {
+                    writeln!(out, "{}: {}", Asked(entry.call), Answered(entry.answer))?;
+                }
+                next = next.saturating_add(1);
+            }
         }
     }
     Ok(())
+}
+
+// Whether no place of the row from `first` on holds anything but 0.
+fn is_blank<M: Memory>(memory: &mut M, first: u32) -> bool {
+    for offset in 0..WIDTH {
+        if let Ok(1..) = memory.read(first.saturating_add(offset)) {
+            return false;
+        }
+    }
+    true
+}
+
+fn print_row<M: Memory>(out: &mut impl Write, memory: &mut M, first: u32) -> io::Result<()> {
+    write!(out, "{first:04X}:")?;
+    for offset in 0..WIDTH {
+        if let Ok(octet) = memory.read(first.saturating_add(offset)) {
+            write!(out, " {octet:02X}")?;
+        }
+    }
+    writeln!(out, "")
+}
+
+// The size of the memory, and its rows that are not blank.
+fn print_memory<M: Memory>(out: &mut impl Write, memory: &mut M) -> io::Result<()> {
+    let size = memory.size();
+    writeln!(out, "memory: {size} octets")?;
+    for row in 0..LIMIT as u32 / WIDTH {
+        if !is_blank(memory, row * WIDTH) {
+            print_row(out, memory, row * WIDTH)?;
+        }
+    }
+    Ok(())
+}
+
+fn play<M: Memory + Drop>(out: &mut impl Write, script: &mut Script, memory: M) -> io::Result<()> {
+    let mut memory = script.play(memory);
+    print_answers(out, script)?;
+    print_memory(out, &mut memory)
 }
 
 // As many cells as a script asks for, but no more than show that a memory is cut.
@@ -133,56 +91,47 @@ fn few(asked: u32) -> usize {
     (asked as usize).min(LIMIT + 16)
 }
 
-// Makes the memory that a line asks for, all octets 0, and plays the lines that follow on it.
-fn play_on(rt: &impl Print, heap: Global, kind: Kind, lines: &[Line]) -> Result<(), AnyError> {
-    match kind {
+// Makes the memory that the script asks for, all octets 0, and plays the calls on it.
+fn play_on(out: &mut impl Write, heap: Global, script: &mut Script) -> Result<(), AnyError> {
+    match script.kind() {
         Kind::Octets { octets } => {
             let mut row = vec![in heap; 0u8; few(octets)]?;
-            play(rt, &mut Row::new(row.as_mut_slice()), lines)?;
+            play(out, script, Row::new(row.as_mut_slice()))?;
         }
         Kind::Words { words } => {
             let mut cells = vec![in heap; 0u16; few(words)]?;
-            play(rt, &mut Words::new(cells.as_mut_slice()), lines)?;
+            play(out, script, Words::new(cells.as_mut_slice()))?;
         }
         Kind::Joined { octets, words } => {
             let mut row = vec![in heap; 0u8; few(octets)]?;
             let mut cells = vec![in heap; 0u16; few(words)]?;
             let row = Row::new(row.as_mut_slice());
             let cells = Words::new(cells.as_mut_slice());
-            play(rt, &mut Joined::new(row, cells), lines)?;
+            play(out, script, Joined::new(row, cells))?;
         }
     }
     Ok(())
 }
 
-// The lines of the script on standard input, but those that are passed over.
-fn read_script(rt: &LibcRuntime, heap: Global) -> Result<Vec<Line>, AnyError> {
-    let mut lines = Vec::new(heap);
-    let mut number = 0u64;
-    for text in rt.lines(heap) {
-        let text = text?;
-        number = number.wrapping_add(1);
-        if !is_passed_over(text.as_str()) {
-            lines.push(line_of(text.as_str()).unwrap_or(Line::Unreadable { number }))?;
-        }
+// Takes the lines on standard input, up to the end or to an error.
+fn read_script(rt: &LibcRuntime, heap: Global, script: &mut Script) -> Result<(), AnyError> {
+    let mut count = 0u64;
+    for line in BufReader::new(rt.stdin()).split(heap, b'\n') {
+        count = count.wrapping_add(1);
+        script.take(line?.as_slice(), count)?;
     }
-    Ok(lines)
+    Ok(())
 }
 
-// A script that does not begin with a memory has one of 4,096 octets.
+// An error in reading does not lose what was read before: that is played first.
 fn run(rt: &LibcRuntime) -> Result<(), AnyError> {
     let heap = rt.alloc();
-    let script = read_script(rt, heap)?;
-    let lines = script.as_slice();
-    if let Some(Line::Read { .. } | Line::Write { .. } | Line::Unreadable { .. }) = lines.first() {
-        play_on(rt, heap, Kind::Octets { octets: 4096 }, lines)?;
-    }
-    for (i, line) in lines.iter().enumerate() {
-        if let Line::Memory(kind) = *line {
-            play_on(rt, heap, kind, &lines[i + 1..])?;
-        }
-    }
-    Ok(())
+    let mut script = Script::new(heap);
+    let whole = read_script(rt, heap, &mut script);
+    let mut out = BufWriter::new(rt.stdout());
+    play_on(&mut out, heap, &mut script)?;
+    out.flush()?;
+    whole
 }
 
 fn main(rt: LibcRuntime) -> Result<(), AnyError> {

@@ -3,3 +3,4 @@ mod channel_cases;
 pub mod frame_cases;
 mod mapping_cases;
 mod memory_cases;
+mod station_cases;
