@@ -1,6 +1,6 @@
 -- What is known of the channels, and the search among it.
-use mathlib.Core.Path.{_≡_, refl, sym, ap, _∙_}
-use mathlib.Core.Bool.{Bool, cond, _&&_}
+use mathlib.Core.Path.{_≡_, refl, sym}
+use mathlib.Core.Bool.{cond, _&&_}
 use mathlib.Core.List.{List, [], _∷_}
 use Prim.Native.Nat.{ℕ, _+_}
 use lib.Dec.{leb}
@@ -12,7 +12,7 @@ use Rattle.channel.specs.declared.service.Service.{Service}
 use Rattle.channel.specs.declared.record.Channel.{Channel}
 use Rattle.channel.specs.Services.{factsOf}
 use Rattle.channel.specs.Areas.{low, high, lowIn, highIn}
-use Rattle.cover.specs.Lowest.{covers, lowest-from}
+use Rattle.cover.specs.Lowest.{lowest-from}
 use Rattle.rules.specs.Questions.{lowOf, highOf}
 use Rattle.rules.specs.Steps.{known, outOfService, serviceAt}
 

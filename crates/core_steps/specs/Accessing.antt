@@ -5,7 +5,6 @@ use Rattle.std.specs.declared.option.Option.{Option}
 use Rattle.std.specs.declared.option.Option.the-variants.{Some, None}
 use Rattle.access.specs.declared.Side.the-variants.{Master}
 use Rattle.access.specs.declared.Direction.{Direction}
-use Rattle.access.specs.declared.Direction.the-variants.{Write}
 use Rattle.mapping.specs.Mapping.{listed}
 use Rattle.frame.specs.Frames.{given}
 use Rattle.frame.specs.declared.command.Addresses.{Addresses}

@@ -1,7 +1,7 @@
 -- A register octet, of a memory of so many times 1,024 octets and of these channels. Assumes nothing.
 use mathlib.Core.Bool.{cond, _||_}
 use mathlib.Core.List.{List}
-use Prim.Native.Nat.{ℕ, _*_}
+use Prim.Native.Nat.{ℕ}
 use lib.Dec.{eqb}
 use Rattle.channel.specs.Areas.{statusIn}
 use Rattle.access.specs.Fields.{octetAt}
