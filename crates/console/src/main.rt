@@ -1,4 +1,7 @@
 // Plays a script of calls on a new station, and prints what each call answers and what the memory holds at the end.
+ghost use mathlib.Core.Path.{_≡_};
+ghost use Prim.Native.Nat.{min};
+
 mod line;
 mod script;
 mod shown;
@@ -87,7 +90,9 @@ fn play<M: Memory + Drop>(out: &mut impl Write, script: &mut Script, memory: M) 
 }
 
 // As many cells as a script asks for, but no more than show that a memory is cut.
-fn few(asked: u32) -> usize {
+fn few(asked: u32) -> usize
+    ensures { λ r. ⌜ r ≡ min asked 61456 ⌝ }
+{
     (asked as usize).min(LIMIT + 16)
 }
 

@@ -1,4 +1,12 @@
 // A whole script: the set-up, the calls in order, and which lines cannot be read.
+ghost use mathlib.Core.Path.{_≡_};
+ghost use denote.Ref.{now};
+ghost use lib.ListN.{length};
+ghost use Rattle.std.specs.Of.Vec.{vec-items};
+ghost use Rattle.std.specs.Options.{valueOr};
+ghost use Rattle.rules.specs.Steps.{station as begunStation, runs, history};
+ghost use Rattle.rules.specs.Promise.{Promise};
+ghost use Rattle.station.specs.Scripts.{callsOf, told};
 use crate::line::Kind;
 use crate::line::Line;
 use crate::line::is_passed_over;
@@ -42,21 +50,31 @@ impl Script {
     }
 
     // The station's number.
-    pub fn number(&self) -> u16 {
+    pub fn number(&self) -> u16
+        ensures { λ r. ⌜ r ≡ valueOr (now (self .entry) .number) 1 ⌝ }
+    {
         self.number.unwrap_or(1)
     }
 
     // The calls in order, each with its answer once the script is played.
-    pub fn entries(&self) -> &[Entry] {
+    pub fn entries(&self) -> &[Entry]
+        ensures { λ r. ⌜ now r ≡ vec-items (now (self .entry) .entries) ⌝ }
+    {
         self.entries.as_slice()
     }
 
-    pub fn items(&self) -> &[Item] {
+    pub fn items(&self) -> &[Item]
+        ensures { λ r. ⌜ now r ≡ vec-items (now (self .entry) .items) ⌝ }
+    {
         self.items.as_slice()
     }
 
     // Plays the calls on a new station over the memory, and gives the memory back.
-    pub fn play<M: Memory>(&mut self, memory: M) -> M {
+    pub fn play<M: Memory>(&mut self, memory: M) -> M
+        ensures answers { λ _. ⌜ told (vec-items (now (self .exit) .entries)) ≡ history (begunStation (octets memory) (valueOr (now (self .entry) .number) 1)) (callsOf (vec-items (now (self .entry) .entries))) ⌝ }
+        ensures after { λ r. ⌜ octets r ≡ runs (begunStation (octets memory) (valueOr (now (self .entry) .number) 1)) (callsOf (vec-items (now (self .entry) .entries))) .octets ⌝ }
+        ensures promise { λ _. ⌜ Promise (length (octets memory)) (valueOr (now (self .entry) .number) 1) (told (vec-items (now (self .exit) .entries))) ⌝ }
+    {
         replay(memory, self.number(), self.entries.as_mut_slice())
     }
 

@@ -1,27 +1,48 @@
 // Numbers and octets as a script spells them.
+ghost use mathlib.Core.Path.{_≡_};
 ghost use Prim.Native.Nat.{_≤_};
+ghost use denote.Ref.{now};
+ghost use Rattle.console.specs.Numerals.{digitOf, valueFrom, numeralOf};
 
-// The value of digits to the base 10 or 16, at least one; what is beyond 32 bits counts as their largest.
-fn value(digits: &str, radix: u32) -> Option<u32>
+fn digit(byte: u8, radix: u32) -> Option<u32>
     requires { ⌜ (2 ≤ radix) × (radix ≤ 16) ⌝ }
+    ensures { λ r. ⌜ r ≡ digitOf radix byte ⌝ }
 {
-    if digits.is_empty() {
-        return None;
-    }
+    char::from(byte).to_digit(radix)
+}
+
+// The value of digits to the base 10 or 16; what is beyond 32 bits counts as their largest.
+fn value(digits: &[u8], radix: u32) -> Option<u32>
+    requires { ⌜ (2 ≤ radix) × (radix ≤ 16) ⌝ }
+    ensures { λ r. ⌜ r ≡ valueFrom radix 0 (now (digits .entry)) ⌝ }
+{
     let mut value = 0u32;
-    for digit in digits.chars() {
-        value = value
-            .saturating_mul(radix)
-            .saturating_add(digit.to_digit(radix)?);
+    for i in 0..digits.len() {
+        let Some(digit) = digit(digits[i], radix) else {
+            return None;
+        };
+        value = value.saturating_mul(radix).saturating_add(digit);
     }
     Some(value)
+}
+
+// At least one digit, and nothing else.
+fn numeral(word: &str, radix: u32) -> Option<u32>
+    requires { ⌜ (2 ≤ radix) × (radix ≤ 16) ⌝ }
+    ensures { λ r. ⌜ r ≡ numeralOf radix (now (word .entry)) ⌝ }
+{
+    if word.is_empty() {
+        None
+    } else {
+        value(word.as_bytes(), radix)
+    }
 }
 
 // A number: decimal, or hexadecimal after 0x.
 pub fn number(word: &str) -> Option<u32> {
     match word.strip_prefix("0x") {
-        Some(digits) => value(digits, 16),
-        None => value(word, 10),
+        Some(digits) => numeral(digits, 16),
+        None => numeral(word, 10),
     }
 }
 
@@ -33,7 +54,7 @@ pub fn short(word: &str) -> Option<u16> {
 // An octet: two hexadecimal digits.
 pub fn octet(word: &str) -> Option<u8> {
     if word.len() == 2 {
-        u8::try_from(value(word, 16)?).ok()
+        u8::try_from(numeral(word, 16)?).ok()
     } else {
         None
     }
