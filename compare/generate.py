@@ -165,7 +165,7 @@ class Generator:
         """A datagram to a window, through a mapped entity if there is one."""
         direction = direction or (BOTH if self.chance(0.1) else channel.way("master"))
         starts = [logical for logical, mapped in self.mapped if mapped is channel]
-        if starts and self.chance(0.6):
+        if starts and self.chance(0.7):
             datagram = Datagram(LOGICAL[direction], (self.any(*starts) + first) & 0xFFFFFFFF, self.data(count))
         else:
             datagram = self.physical(direction, channel.start + first, self.data(count))
@@ -297,7 +297,9 @@ class Generator:
 
     def refused_setting(self):
         """A setting that shall be refused, for a reason from 19 to 22 (a channel in service refuses it with 3)."""
-        number, reason = self.random.randrange(8), self.any(19, 20, 21, 22)
+        idle = [number for number in range(8) if number not in self.channels]
+        number = self.any(*idle) if idle and self.chance(0.8) else self.random.randrange(8)
+        reason = self.any(19, 20, 21, 22)
         start, length = FIRST + self.random.randrange(64), self.any(2, 3, 4)
         control = self.any(0, 2, 4, 6)
         other = self.channel()
@@ -344,20 +346,30 @@ class Generator:
         channel = self.channel()
         if channel is None:
             return self.map_bits()
-        logical = self.any(*self.logical, self.random.randrange(2 ** 32))
+        logical = self.any(self.any(*self.logical), self.random.randrange(2 ** 32))
         kind = self.any(3, 3, 1 if channel.way("master") == READ else 2)
         length = channel.length + self.any(0, 0, 0, -1, 1, 3)
-        if self.send([self.entity(self.random.randrange(8), logical, length, (0, 7), channel.start, 0, kind)], "good"):
-            self.mapped = [(start, mapped) for start, mapped in self.mapped if start != logical] + [(logical, channel)]
-            self.logical.append(logical)
+        self.send([self.entity(self.random.randrange(8), logical, length, (0, 7), channel.start, 0, kind)], "good")
+        self.mapped = [(start, mapped) for start, mapped in self.mapped if start != logical] + [(logical, channel)]
+        self.logical.append(logical)
+        self.send([self.whole_window(channel)])
 
     def map_bits(self):
         """Maps odd bits: across octets, into areas, out of the memory, backwards, past the last logical octet."""
         logical = (self.any(*self.logical) + self.any(-1, 0, 0, 1)) & 0xFFFFFFFF
         bits = (self.random.randrange(8), self.random.randrange(8))
         physical = self.any(self.place_near(), self.place_near(), FIRST + self.random.randrange(40), 0x0FFF, 0xFFFF)
-        self.send([self.entity(self.random.randrange(8), logical, self.any(0, 1, 1, 2, 3, 5), bits, physical,
-                               self.random.randrange(8), self.any(0, 1, 2, 3, 3, 3, 0xFF), self.any(0, 1, 1, 1, 1))])
+        length = self.any(0, 1, 1, 2, 3, 5)
+        if self.send([self.entity(self.random.randrange(8), logical, length, bits, physical, self.random.randrange(8),
+                                  self.any(0, 1, 2, 3, 3, 3, 0xFF), self.any(0, 1, 1, 1, 1))]):
+            self.logical.append(logical)
+            self.logical_frame(logical, length)
+
+    def logical_frame(self, logical, length):
+        """A frame of one or two logical datagrams over the octets of an entity and around them."""
+        first = (logical + self.any(-1, 0, 0, 0)) & 0xFFFFFFFF
+        self.send([Datagram(LOGICAL[self.any(READ, WRITE, BOTH)], first, self.data(length + self.any(0, 1)))
+                   for _ in range(self.any(1, 1, 2))])
 
     def unmap(self):
         """Switches an entity off."""
@@ -419,6 +431,18 @@ class Generator:
             return self.any_frame()
         first = channel.next["master"] if self.chance(0.85) else self.random.randrange(channel.length)
         self.send([self.window_datagram(channel, first, self.random.randrange(channel.length - first) + 1)])
+
+    def span(self):
+        """A transaction of the master over several frames, some of which may be dropped."""
+        channel = self.channel()
+        if channel is None:
+            return self.any_frame()
+        for _ in range(self.any(2, 3, 4)):
+            first = channel.next["master"]
+            count = min(self.any(1, 1, 2, 3), channel.length - first)
+            self.send([self.window_datagram(channel, first, count)], self.any(*["good"] * 6, "bad"))
+            if channel.blocked("master"):
+                self.local_message()
 
     def exchange(self):
         """A message from one side to the other: the storing side's whole, then the fetching side's."""
@@ -495,9 +519,9 @@ class Generator:
 
 
 MOVES = {
-    Generator.enable: 8, Generator.enable_refused: 4, Generator.disable: 3, Generator.map_window: 5,
+    Generator.enable: 8, Generator.enable_refused: 4, Generator.disable: 3, Generator.map_window: 8,
     Generator.map_bits: 4, Generator.unmap: 1, Generator.set_address: 1, Generator.local_message: 8,
-    Generator.master_message: 9, Generator.master_part: 6, Generator.exchange: 12, Generator.twice: 3,
+    Generator.master_message: 9, Generator.master_part: 4, Generator.span: 5, Generator.exchange: 14, Generator.twice: 3,
     Generator.dropped: 4, Generator.watch: 2, Generator.any_frame: 6, Generator.passing_frame: 1,
     Generator.long_frame: 0.15, Generator.open_frame: 0.7, Generator.no_frame: 0.5,
     Generator.stray_local: 4, Generator.unreadable: 0.3,

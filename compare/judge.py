@@ -177,6 +177,7 @@ class Transaction:
         self.octets = []
         self.state = "open"                     # open, waiting, completed or cancelled
         self.frames = set()                     # the master's frames that did an access in it
+        self.mapped = False                     # did an entity serve one of its accesses?
         self.writings_before = writings_before  # writings completed when it opened
 
     def taken(self):
@@ -226,13 +227,14 @@ class Story:
         """Is the mailbox full?"""
         return len(self.completed[WRITE]) > len(self.completed[READ])
 
-    def tell(self, direction, offset, octet, frame):
+    def tell(self, direction, offset, octet, frame, mapped):
         """A done store or fetch; frame is None for the local side."""
         transaction = self.open(direction)
         if transaction is None:
             transaction = Transaction(len(self.completed[WRITE]))
             self.all[direction].append(transaction)
         transaction.octets.append((offset, octet))
+        transaction.mapped |= mapped
         if frame is not None:
             transaction.frames.add(frame)
         if direction == READ and not self.mailbox:
@@ -472,7 +474,7 @@ class Account:
         story = self.area_of(access.address)
         if story is not None:
             frame = self.frame.serial if side == MASTER else None
-            story.tell(direction, access.address - story.start, octet, frame)
+            story.tell(direction, access.address - story.start, octet, frame, access.share == "whole")
         elif access.address < 0x1000 and direction == WRITE:
             if side == MASTER:
                 self.frame.waiting[access.address] = octet
