@@ -259,7 +259,7 @@ class Generator:
         """A datagram that writes a channel's registers."""
         octets = (low_first(start, 2) + low_first(length, 2)
                   + [control | self.any(0, 0, 0x10, 0x70, 0xF0), self.octet(), enable | self.any(0, 0, 0xFE), self.octet()])
-        return self.physical(WRITE, CHANNELS + 8 * number, octets[:self.any(7, 8)])
+        return self.physical(self.any(WRITE, WRITE, WRITE, BOTH), CHANNELS + 8 * number, octets[:self.any(7, 8)])
 
     def is_free(self, area):
         """Does the area lie in the memory and touch none in service?"""
@@ -289,6 +289,20 @@ class Generator:
         if not self.send(datagrams or [self.any_datagram()]):
             for channel in chosen:
                 del self.channels[channel.number]
+
+    def hand_over(self):
+        """Disables a channel and gives its area to another one in the same frame."""
+        old = self.channel()
+        idle = [number for number in range(8) if number not in self.channels]
+        if old is None or not idle:
+            return self.disable()
+        new = Channel(self.any(*idle), old.start, old.length, True, self.chance(0.5))
+        datagrams = [self.physical(WRITE, CHANNELS + 8 * old.number + 6, [0]),
+                     self.setting(new.number, new.start, new.length, 6 if new.master_stores else 2)]
+        self.random.shuffle(datagrams)
+        if self.send(datagrams):
+            self.forget(old)
+            self.channels[new.number] = new
 
     def enable_refused(self):
         """Asks for one to three enablings that shall be refused, perhaps with one that may be accepted."""
@@ -339,7 +353,7 @@ class Generator:
         """A datagram that writes an entity's registers."""
         octets = (low_first(logical, 4) + low_first(length, 2) + list(bits) + low_first(physical, 2)
                   + [physical_bit, kind, active, self.octet(), self.octet(), self.octet()])
-        return self.physical(WRITE, ENTITIES + 16 * number, octets[:self.any(13, 16)])
+        return self.physical(self.any(WRITE, WRITE, WRITE, BOTH), ENTITIES + 16 * number, octets[:self.any(13, 16)])
 
     def map_window(self):
         """Maps whole octets onto a window."""
@@ -490,9 +504,14 @@ class Generator:
         self.end(self.any("good", "good", "bad"))
 
     def long_frame(self):
-        """A frame of more than 1,500 octets, with a datagram to a window if there is one."""
+        """A frame of more than 1,500 octets by its padding, or of about 1,500 by one long datagram
+        (with 1,486 data octets it just fits)."""
         channel = self.channel()
-        self.send([self.whole_window(channel) if channel else self.any_datagram()], "long", 0)
+        if channel and self.chance(0.5):
+            self.send([self.whole_window(channel)], "long", 0)
+        else:
+            direction, address = self.any(READ, WRITE, BOTH), self.any(FIRST, self.place_near())
+            self.send([self.physical(direction, address, self.data(1486 + self.any(-1, 0, 0, 1, 2, 12)))], "good", 0)
 
     def open_frame(self):
         """A frame that is left open; the next begin is refused, and the end is late."""
@@ -519,7 +538,7 @@ class Generator:
 
 
 MOVES = {
-    Generator.enable: 8, Generator.enable_refused: 4, Generator.disable: 3, Generator.map_window: 8,
+    Generator.enable: 8, Generator.enable_refused: 4, Generator.disable: 3, Generator.hand_over: 1.5, Generator.map_window: 8,
     Generator.map_bits: 4, Generator.unmap: 1, Generator.set_address: 1, Generator.local_message: 8,
     Generator.master_message: 9, Generator.master_part: 4, Generator.span: 5, Generator.exchange: 14, Generator.twice: 3,
     Generator.dropped: 4, Generator.watch: 2, Generator.any_frame: 6, Generator.passing_frame: 1,
