@@ -128,7 +128,7 @@ def refused_to_done(line):
 
 def other_number(line):
     """Another number in a refusal."""
-    return re.sub(r"(refused|dropped) (\d+)", lambda found: "%s %d" % (found.group(1), int(found.group(2)) % 22 + 1), line)
+    return re.sub(r"(?<=refused |dropped )\d+", lambda found: str(int(found.group()) % 22 + 1), line)
 
 
 def other_channel(line):

@@ -85,7 +85,7 @@ class Generator:
         """True with this probability."""
         return self.random.random() < probability
 
-    def any(self, *choices):
+    def one_of(self, *choices):
         """One of the choices."""
         return self.random.choice(choices)
 
@@ -110,39 +110,41 @@ class Generator:
         channel = self.channel()
         if channel and self.chance(0.6):
             length = channel.length
-            offset = self.any(-1, 0, 0, 1, length - 1, length, 2 * length, 3 * length - 1, 3 * length)
+            offset = self.one_of(-1, 0, 0, 1, length - 1, length, 2 * length, 3 * length - 1, 3 * length)
             return min(max(channel.start + offset, 0), 0xFFFF)
         if self.chance(0.5):
             return min(FIRST + self.random.randrange(self.size + 4), 0xFFFF)
-        return self.any(*BORDERS, FIRST + max(self.size - 1, 0), min(FIRST + self.size, 0xFFFF))
+        return self.one_of(*BORDERS, FIRST + max(self.size - 1, 0), min(FIRST + self.size, 0xFFFF))
 
     # ---- set-up
 
     def set_up(self):
         """Chooses the memory, the station's number and perhaps an alias."""
         rare = self.chance(0.03)
-        kind = self.any("none", "octets", "octets", "words", "words", "joined", "joined")
+        kind = self.one_of("none", "octets", "octets", "words", "words", "joined", "joined")
         if kind == "octets":
-            count = self.any(0, 61440, 70000) if rare else self.any(64, 100, 256, 1024, 4096)
+            count = self.one_of(0, 61440, 70000) if rare else self.one_of(64, 100, 256, 1024, 4096)
             self.size = min(count, 61440)
             self.line("memory octets %d", count)
         elif kind == "words":
-            count = self.any(0, 30720, 40000) if rare else self.any(32, 50, 100, 512, 2048)
+            count = self.one_of(0, 30720, 40000) if rare else self.one_of(32, 50, 100, 512, 2048)
             self.size = min(2 * count, 61440)
             self.line("memory words %d", count)
         elif kind == "joined":
-            octets, words = self.any((0, 0), (61439, 8)) if rare else (self.any(0, 7, 41, 64, 333), self.any(32, 50, 200))
+            octets, words = self.one_of(0, 7, 41, 64, 333), self.one_of(32, 50, 200)
+            if rare:
+                octets, words = self.one_of((0, 0), (61439, 8))
             self.size = min(octets + 2 * words, 61440)
             self.line("memory joined %d 0x%X", octets, words)
         if self.chance(0.3):
-            self.number = self.any(0, 2, 7, 0x1234, 65535)
+            self.number = self.one_of(0, 2, 7, 0x1234, 65535)
             self.line("station %d", self.number)
         if self.chance(0.3):
             self.set_alias()
 
     def set_alias(self):
         """The local side sets the alias."""
-        self.alias = self.any(0, 5, 0x1234)
+        self.alias = self.one_of(0, 5, 0x1234)
         for i, octet in enumerate(low_first(self.alias, 2)):
             self.line("write 0x%04X %02X", 0x12 + i, octet)
 
@@ -150,11 +152,12 @@ class Generator:
 
     def command(self, direction):
         """A command and its ADP that reach this station in a direction."""
-        configured, other = self.any(self.address, self.alias), (self.any(self.address, self.alias) + 0x101) & 0xFFFF
-        anywhere = self.any(0, 0, 1, 0xFF, 0xFFFF)
-        return {READ: self.any((1, 0), (4, configured), (7, anywhere), (13, 0), (14, configured)),
-                WRITE: self.any((2, 0), (2, 0), (5, configured), (8, anywhere), (13, 0xFFFF), (14, other)),
-                BOTH: self.any((3, 0), (6, configured), (9, anywhere))}[direction]
+        configured = self.one_of(self.address, self.alias)
+        other = (configured + 0x101) & 0xFFFF
+        anywhere = self.one_of(0, 0, 1, 0xFF, 0xFFFF)
+        return {READ: self.one_of((1, 0), (4, configured), (7, anywhere), (13, 0), (14, configured)),
+                WRITE: self.one_of((2, 0), (2, 0), (5, configured), (8, anywhere), (13, 0xFFFF), (14, other)),
+                BOTH: self.one_of((3, 0), (6, configured), (9, anywhere))}[direction]
 
     def physical(self, direction, ado, data):
         """A datagram that reaches a physical address."""
@@ -166,18 +169,18 @@ class Generator:
         direction = direction or (BOTH if self.chance(0.1) else channel.way("master"))
         starts = [logical for logical, mapped in self.mapped if mapped is channel]
         if starts and self.chance(0.7):
-            datagram = Datagram(LOGICAL[direction], (self.any(*starts) + first) & 0xFFFFFFFF, self.data(count))
+            datagram = Datagram(LOGICAL[direction], (self.one_of(*starts) + first) & 0xFFFFFFFF, self.data(count))
         else:
             datagram = self.physical(direction, channel.start + first, self.data(count))
         return datagram._replace(channel=channel, first=first, direction=direction)
 
     def any_datagram(self):
         """A datagram of any command, anywhere."""
-        command = self.any(*range(1, 15), 0, 15, 200)
-        data = self.data(self.any(0, 1, 1, 2, 3, 4, 6))
+        command = self.one_of(*range(1, 15), 0, 15, 200)
+        data = self.data(self.one_of(0, 1, 1, 2, 3, 4, 6))
         if command in LOGICAL.values():
-            return Datagram(command, (self.any(*self.logical) + self.any(-1, 0, 0, 0, 1)) & 0xFFFFFFFF, data)
-        adp = self.any(0, 0, 0, self.address, self.alias, 1, 0xFFFF)
+            return Datagram(command, (self.one_of(*self.logical) + self.one_of(-1, 0, 0, 0, 1)) & 0xFFFFFFFF, data)
+        adp = self.one_of(0, 0, 0, self.address, self.alias, 1, 0xFFFF)
         return Datagram(command, adp | self.place_near() << 16, data)
 
     def frame_octets(self, datagrams):
@@ -185,10 +188,10 @@ class Generator:
         octets = [self.octet(), 0x10 | self.random.randrange(16)]
         for position, datagram in enumerate(datagrams):
             more = position + 1 < len(datagrams)
-            ignored = self.any(0, 0, 0x0800, 0x7800)
+            ignored = self.one_of(0, 0, 0x0800, 0x7800)
             octets += [datagram.command, self.octet()] + low_first(datagram.address, 4)
             octets += low_first(len(datagram.data) | ignored | (0x8000 if more else 0), 2) + self.data(2)
-            octets += datagram.data + low_first(self.any(0, 0, 254, 255, 0xFFFE, 0xFFFF), 2)
+            octets += datagram.data + low_first(self.one_of(0, 0, 254, 255, 0xFFFE, 0xFFFF), 2)
         return octets
 
     # ---- frames
@@ -196,8 +199,8 @@ class Generator:
     def send(self, datagrams, fate=None, chatter=None):
         """Sends a frame. Its fate: good, bad (the verdict), cut (within its datagrams), long (past
         1,500 octets) or open (not ended). chatter: how likely other calls stand between octets."""
-        fate = fate or self.any(*["good"] * 12, "bad", "bad", "cut")
-        chatter = self.any(0, 0, 0.05, 0.25) if chatter is None else chatter
+        fate = fate or self.one_of(*["good"] * 12, "bad", "bad", "cut")
+        chatter = self.one_of(0, 0, 0.05, 0.25) if chatter is None else chatter
         octets = self.frame_octets(datagrams)
         if fate == "cut":
             octets = octets[:self.random.randrange(len(octets))]
@@ -206,7 +209,7 @@ class Generator:
         self.line("begin")
         self.give(octets, chatter)
         if fate == "long":
-            self.line("octets " + " ".join(["%02X" % self.octet()] * (1501 - len(octets) + self.any(0, 1))))
+            self.line("octets " + " ".join(["%02X" % self.octet()] * (1501 - len(octets) + self.one_of(0, 1))))
         if fate != "open":
             self.end("bad" if fate == "bad" or (fate != "good" and self.chance(0.2)) else "good")
         self.believe(datagrams, fate == "good")
@@ -257,9 +260,10 @@ class Generator:
 
     def setting(self, number, start, length, control, enable=1):
         """A datagram that writes a channel's registers."""
-        octets = (low_first(start, 2) + low_first(length, 2)
-                  + [control | self.any(0, 0, 0x10, 0x70, 0xF0), self.octet(), enable | self.any(0, 0, 0xFE), self.octet()])
-        return self.physical(self.any(WRITE, WRITE, WRITE, BOTH), CHANNELS + 8 * number, octets[:self.any(7, 8)])
+        control |= self.one_of(0, 0, 0x10, 0x70, 0xF0)
+        enable |= self.one_of(0, 0, 0xFE)
+        octets = low_first(start, 2) + low_first(length, 2) + [control, self.octet(), enable, self.octet()]
+        return self.physical(self.one_of(WRITE, WRITE, WRITE, BOTH), CHANNELS + 8 * number, octets[:self.one_of(7, 8)])
 
     def is_free(self, area):
         """Does the area lie in the memory and touch none in service?"""
@@ -270,8 +274,8 @@ class Generator:
         """A channel that should be accepted, or None if there is no room."""
         idle = [number for number in range(8) if number not in self.channels]
         for _ in range(20 if idle else 0):
-            candidate = Channel(self.any(*idle), FIRST + self.random.randrange(self.any(48, max(self.size, 1))),
-                                self.any(2, 2, 3, 3, 4, 5, 8, 17), self.chance(0.5), self.chance(0.5))
+            candidate = Channel(self.one_of(*idle), FIRST + self.random.randrange(self.one_of(48, max(self.size, 1))),
+                                self.one_of(2, 2, 3, 3, 4, 5, 8, 17), self.chance(0.5), self.chance(0.5))
             if self.is_free(candidate.area()):
                 return candidate
         return None
@@ -279,7 +283,7 @@ class Generator:
     def enable(self):
         """Enables one to three channels in one frame."""
         chosen, datagrams = [], []
-        for _ in range(self.any(1, 1, 2, 3)):
+        for _ in range(self.one_of(1, 1, 2, 3)):
             channel = self.new_channel()
             if channel is not None:
                 self.channels[channel.number] = channel
@@ -296,7 +300,7 @@ class Generator:
         idle = [number for number in range(8) if number not in self.channels]
         if old is None or not idle:
             return self.disable()
-        new = Channel(self.any(*idle), old.start, old.length, True, self.chance(0.5))
+        new = Channel(self.one_of(*idle), old.start, old.length, True, self.chance(0.5))
         datagrams = [self.physical(WRITE, CHANNELS + 8 * old.number + 6, [0]),
                      self.setting(new.number, new.start, new.length, 6 if new.master_stores else 2)]
         self.random.shuffle(datagrams)
@@ -306,32 +310,32 @@ class Generator:
 
     def enable_refused(self):
         """Asks for one to three enablings that shall be refused, perhaps with one that may be accepted."""
-        datagrams = [self.refused_setting() for _ in range(self.any(1, 1, 2, 3))]
-        self.send(datagrams, self.any("good", "good", "good", "bad"))
+        datagrams = [self.refused_setting() for _ in range(self.one_of(1, 1, 2, 3))]
+        self.send(datagrams, self.one_of("good", "good", "good", "bad"))
 
     def refused_setting(self):
         """A setting that shall be refused, for a reason from 19 to 22 (a channel in service refuses it with 3)."""
         idle = [number for number in range(8) if number not in self.channels]
-        number = self.any(*idle) if idle and self.chance(0.8) else self.random.randrange(8)
-        reason = self.any(19, 20, 21, 22)
-        start, length = FIRST + self.random.randrange(64), self.any(2, 3, 4)
-        control = self.any(0, 2, 4, 6)
+        number = self.one_of(*idle) if idle and self.chance(0.8) else self.random.randrange(8)
+        reason = self.one_of(19, 20, 21, 22)
+        start, length = FIRST + self.random.randrange(64), self.one_of(2, 3, 4)
+        control = self.one_of(0, 2, 4, 6)
         other = self.channel()
         if reason == 19:
-            control = self.any(1, 3, 8, 12, 13, 5, 0x0A)
+            control = self.one_of(1, 3, 8, 12, 13, 5, 0x0A)
         elif reason == 20:
-            length = self.any(0, 1)
+            length = self.one_of(0, 1)
         elif reason == 22 and other:
             start = other.area().stop - 1 if self.chance(0.5) else max(other.start - length + 1, 0)
-            control = self.any(2, 6)
+            control = self.one_of(2, 6)
         else:
-            start, length = self.any((0x0FFF, 2), (0, 4), (0xFFFF, 2), (FIRST, 0x5556), (FIRST, 0xFFFF),
+            start, length = self.one_of((0x0FFF, 2), (0, 4), (0xFFFF, 2), (FIRST, 0x5556), (FIRST, 0xFFFF),
                                      (FIRST + max(self.size - 5, 0), 6))
         return self.setting(number, start, length, control)
 
     def enable_bits(self, number):
         """A datagram or two that write the enable bit of a channel alone."""
-        values = self.any([0], [0], [0], [1], [0, 1], [1, 0])
+        values = self.one_of([0], [0], [0], [1], [0, 1], [1, 0])
         return [self.physical(WRITE, CHANNELS + 8 * number + 6, [value]) for value in values], values[-1]
 
     def disable(self):
@@ -353,16 +357,17 @@ class Generator:
         """A datagram that writes an entity's registers."""
         octets = (low_first(logical, 4) + low_first(length, 2) + list(bits) + low_first(physical, 2)
                   + [physical_bit, kind, active, self.octet(), self.octet(), self.octet()])
-        return self.physical(self.any(WRITE, WRITE, WRITE, BOTH), ENTITIES + 16 * number, octets[:self.any(13, 16)])
+        direction = self.one_of(WRITE, WRITE, WRITE, BOTH)
+        return self.physical(direction, ENTITIES + 16 * number, octets[:self.one_of(13, 16)])
 
     def map_window(self):
         """Maps whole octets onto a window."""
         channel = self.channel()
         if channel is None:
             return self.map_bits()
-        logical = self.any(self.any(*self.logical), self.random.randrange(2 ** 32))
-        kind = self.any(3, 3, 1 if channel.way("master") == READ else 2)
-        length = channel.length + self.any(0, 0, 0, -1, 1, 3)
+        logical = self.one_of(self.one_of(*self.logical), self.random.randrange(2 ** 32))
+        kind = self.one_of(3, 3, 1 if channel.way("master") == READ else 2)
+        length = channel.length + self.one_of(0, 0, 0, -1, 1, 3)
         self.send([self.entity(self.random.randrange(8), logical, length, (0, 7), channel.start, 0, kind)], "good")
         self.mapped = [(start, mapped) for start, mapped in self.mapped if start != logical] + [(logical, channel)]
         self.logical.append(logical)
@@ -370,20 +375,20 @@ class Generator:
 
     def map_bits(self):
         """Maps odd bits: across octets, into areas, out of the memory, backwards, past the last logical octet."""
-        logical = (self.any(*self.logical) + self.any(-1, 0, 0, 1)) & 0xFFFFFFFF
+        logical = (self.one_of(*self.logical) + self.one_of(-1, 0, 0, 1)) & 0xFFFFFFFF
         bits = (self.random.randrange(8), self.random.randrange(8))
-        physical = self.any(self.place_near(), self.place_near(), FIRST + self.random.randrange(40), 0x0FFF, 0xFFFF)
-        length = self.any(0, 1, 1, 2, 3, 5)
+        physical = self.one_of(self.place_near(), self.place_near(), FIRST + self.random.randrange(40), 0x0FFF, 0xFFFF)
+        length = self.one_of(0, 1, 1, 2, 3, 5)
         if self.send([self.entity(self.random.randrange(8), logical, length, bits, physical, self.random.randrange(8),
-                                  self.any(0, 1, 2, 3, 3, 3, 0xFF), self.any(0, 1, 1, 1, 1))]):
+                                  self.one_of(0, 1, 2, 3, 3, 3, 0xFF), self.one_of(0, 1, 1, 1, 1))]):
             self.logical.append(logical)
             self.logical_frame(logical, length)
 
     def logical_frame(self, logical, length):
         """A frame of one or two logical datagrams over the octets of an entity and around them."""
-        first = (logical + self.any(-1, 0, 0, 0)) & 0xFFFFFFFF
-        self.send([Datagram(LOGICAL[self.any(READ, WRITE, BOTH)], first, self.data(length + self.any(0, 1)))
-                   for _ in range(self.any(1, 1, 2))])
+        first = (logical + self.one_of(-1, 0, 0, 0)) & 0xFFFFFFFF
+        self.send([Datagram(LOGICAL[self.one_of(READ, WRITE, BOTH)], first, self.data(length + self.one_of(0, 1)))
+                   for _ in range(self.one_of(1, 1, 2))])
 
     def unmap(self):
         """Switches an entity off."""
@@ -391,7 +396,7 @@ class Generator:
 
     def set_address(self):
         """The master sets the station address."""
-        address = self.any(0, 5, 7, 0x1234)
+        address = self.one_of(0, 5, 7, 0x1234)
         if self.send([self.physical(WRITE, 0x0010, low_first(address, 2))]):
             self.address = address
 
@@ -401,7 +406,8 @@ class Generator:
         """The local side's next access to a window; now and then one out of turn."""
         way, offset = channel.way("local"), channel.next["local"]
         if self.chance(0.15):
-            offset = self.any(0, max(offset - 1, 0), offset + 1, channel.length - 1, channel.length, 3 * channel.length - 1)
+            length = channel.length
+            offset = self.one_of(0, max(offset - 1, 0), offset + 1, length - 1, length, 3 * length - 1)
         if self.chance(0.04):
             way = READ if way == WRITE else WRITE
         elif offset < channel.length:
@@ -417,7 +423,7 @@ class Generator:
         channel = self.channel()
         if channel is None:
             return self.stray_local()
-        for _ in range(self.any(channel.length, channel.length, 2 * channel.length, 1, 2)):
+        for _ in range(self.one_of(channel.length, channel.length, 2 * channel.length, 1, 2)):
             self.local_step(channel)
 
     def master_message(self):
@@ -436,7 +442,7 @@ class Generator:
     def whole_window(self, channel):
         """A datagram to the rest of a window, sometimes to one octet more."""
         first = channel.next["master"] if self.chance(0.8) else 0
-        return self.window_datagram(channel, first, channel.length - first + self.any(0, 0, 0, 0, 0, 1))
+        return self.window_datagram(channel, first, channel.length - first + self.one_of(0, 0, 0, 0, 0, 1))
 
     def master_part(self):
         """The master takes a part of a window, so that its transaction spans frames."""
@@ -451,10 +457,10 @@ class Generator:
         channel = self.channel()
         if channel is None:
             return self.any_frame()
-        for _ in range(self.any(2, 3, 4)):
+        for _ in range(self.one_of(2, 3, 4)):
             first = channel.next["master"]
-            count = min(self.any(1, 1, 2, 3), channel.length - first)
-            self.send([self.window_datagram(channel, first, count)], self.any(*["good"] * 6, "bad"))
+            count = min(self.one_of(1, 1, 2, 3), channel.length - first)
+            self.send([self.window_datagram(channel, first, count)], self.one_of(*["good"] * 6, "bad"))
             if channel.blocked("master"):
                 self.local_message()
 
@@ -475,15 +481,15 @@ class Generator:
         channel = self.channel()
         if channel is None:
             return self.any_frame()
-        self.send([self.whole_window(channel), self.window_datagram(channel, 0, self.any(1, channel.length))])
+        self.send([self.whole_window(channel), self.window_datagram(channel, 0, self.one_of(1, channel.length))])
 
     def dropped(self):
         """A frame that takes from a window and is dropped."""
         channel = self.channel()
         if channel is None:
             return self.any_frame()
-        datagram = self.any(self.whole_window(channel), self.window_datagram(channel, 0, 1))
-        self.send([datagram, self.any_datagram()], self.any("bad", "bad", "cut"))
+        datagram = self.one_of(self.whole_window(channel), self.window_datagram(channel, 0, 1))
+        self.send([datagram, self.any_datagram()], self.one_of("bad", "bad", "cut"))
 
     def watch(self):
         """Both sides read the status octets."""
@@ -495,13 +501,13 @@ class Generator:
 
     def any_frame(self):
         """A frame of any datagrams."""
-        self.send([self.any_datagram() for _ in range(self.any(1, 2, 3, 4))])
+        self.send([self.any_datagram() for _ in range(self.one_of(1, 2, 3, 4))])
 
     def passing_frame(self):
         """A frame of another type."""
         self.line("begin")
-        self.give([self.octet(), self.any(0x00, 0x20, 0xF1)] + self.data(self.random.randrange(20)), 0)
-        self.end(self.any("good", "good", "bad"))
+        self.give([self.octet(), self.one_of(0x00, 0x20, 0xF1)] + self.data(self.random.randrange(20)), 0)
+        self.end(self.one_of("good", "good", "bad"))
 
     def long_frame(self):
         """A frame of more than 1,500 octets by its padding, or of about 1,500 by one long datagram
@@ -510,8 +516,8 @@ class Generator:
         if channel and self.chance(0.5):
             self.send([self.whole_window(channel)], "long", 0)
         else:
-            direction, address = self.any(READ, WRITE, BOTH), self.any(FIRST, self.place_near())
-            self.send([self.physical(direction, address, self.data(1486 + self.any(-1, 0, 0, 1, 2, 12)))], "good", 0)
+            direction, address = self.one_of(READ, WRITE, BOTH), self.one_of(FIRST, self.place_near())
+            self.send([self.physical(direction, address, self.data(1486 + self.one_of(-1, 0, 0, 1, 2, 12)))], "good", 0)
 
     def open_frame(self):
         """A frame that is left open; the next begin is refused, and the end is late."""
@@ -523,7 +529,7 @@ class Generator:
     def no_frame(self):
         """Octets and ends when no frame runs."""
         self.line("octet %02X", self.octet())
-        self.line("end %s", self.any("good", "bad"))
+        self.line("end %s", self.one_of("good", "bad"))
 
     def stray_local(self):
         """A local access anywhere."""
@@ -534,13 +540,15 @@ class Generator:
 
     def unreadable(self):
         """A line that cannot be read."""
-        self.line(self.any(*UNREADABLE))
+        self.line(self.one_of(*UNREADABLE))
 
 
 MOVES = {
-    Generator.enable: 8, Generator.enable_refused: 4, Generator.disable: 3, Generator.hand_over: 1.5, Generator.map_window: 8,
-    Generator.map_bits: 4, Generator.unmap: 1, Generator.set_address: 1, Generator.local_message: 8,
-    Generator.master_message: 9, Generator.master_part: 4, Generator.span: 5, Generator.exchange: 14, Generator.twice: 3,
+    Generator.enable: 8, Generator.enable_refused: 4, Generator.disable: 3, Generator.hand_over: 1.5,
+    Generator.map_window: 8, Generator.map_bits: 4, Generator.unmap: 1, Generator.set_address: 1,
+    Generator.local_message: 8,
+    Generator.master_message: 9, Generator.master_part: 4, Generator.span: 5, Generator.exchange: 14,
+    Generator.twice: 3,
     Generator.dropped: 4, Generator.watch: 2, Generator.any_frame: 6, Generator.passing_frame: 1,
     Generator.long_frame: 0.15, Generator.open_frame: 0.7, Generator.no_frame: 0.5,
     Generator.stray_local: 4, Generator.unreadable: 0.3,
@@ -552,7 +560,7 @@ def script(seed):
     generator = Generator(seed)
     generator.set_up()
     generator.enable()
-    moves = generator.random.choices(list(MOVES), list(MOVES.values()), k=generator.any(5, 10, 20, 40))
+    moves = generator.random.choices(list(MOVES), list(MOVES.values()), k=generator.one_of(5, 10, 20, 40))
     for move in moves:
         move(generator)
     return "\n".join(generator.lines) + "\n"

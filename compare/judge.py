@@ -19,6 +19,7 @@ FIRST_PLACE = 0x1000
 MEMORY_LIMIT = 61440
 FRAME_LIMIT = 1500
 NO_CHANNEL = 255
+OWN = "own"         # a frame that carries the station's own number
 
 AS_ASKED = "refusals, as asked: the answer is the one that the questions give"
 IN_WORDS_WRITE = ("refusals, writes: in a buffered channel a write in its turn is refused exactly when"
@@ -116,8 +117,8 @@ class Script:
         return self.add(line, "begin")
 
     def carried(self, word):
-        """The number that the frame handed in carries: True if no word says it, None if unfit."""
-        return True if word is None else number_in(word)
+        """The number that the frame handed in carries: OWN if no word says it, None if unfit."""
+        return OWN if word is None else number_in(word)
 
     def take_octet(self, line, found):
         """octet HH, octet HH of S"""
@@ -126,7 +127,7 @@ class Script:
 
     def take_octets(self, line, found):
         """octets HH HH .."""
-        return all([self.add(line, "octet", octet=int(word, 16), number=True) for word in found.group(1).split()])
+        return all([self.add(line, "octet", octet=int(word, 16), number=OWN) for word in found.group(1).split()])
 
     def take_end(self, line, found):
         """end good, end bad, both also of S"""
@@ -286,12 +287,12 @@ class Story:
             raise Broken(MAILBOX_COUNT, "channel %d: %d writings, %d readings" % (
                 self.channel, len(writings), len(readings)))
         if direction == READ:
-            n = len(readings)
-            difference = readings[-1].differs_from(writings[n - 1])
+            writing = writings[len(readings) - 1]
+            difference = readings[-1].differs_from(writing)
             if difference is not None:
                 offset, octet = difference
-                raise Broken(MAILBOX, "channel %d: completed reading %d fetched %02X at offset %d, writing %d has %s" % (
-                    self.channel, n, octet, offset, n, shown(writings[n - 1].message().get(offset))))
+                raise Broken(MAILBOX, "channel %d, n = %d: fetched %02X at offset %d, the writing has %s there" % (
+                    self.channel, len(readings), octet, offset, shown(writing.message().get(offset))))
 
 
 def shown(octet):
@@ -520,7 +521,7 @@ class Account:
 
     def strange(self, call):
         """Runs no frame, or does the frame that is handed in carry another number?"""
-        return self.frame is None or (call.number is not True and call.number != self.number)
+        return self.frame is None or call.number not in (OWN, self.number)
 
     def octet(self, call, answer):
         """Octet: its reads are asked and told, then its writes."""
@@ -536,8 +537,8 @@ class Account:
                 raise Broken(AS_ASKED, "the questions refuse nothing of the octet itself, the answer is '%s'" % answer)
             compare(said + "forwards ..", parts[0])
             accesses = {direction: self.accesses(direction) for direction in (READ, WRITE)}
-            self.direction(READ, accesses[READ], parts[1], None)
-            self.direction(WRITE, accesses[WRITE], parts[2], call.octet)
+            self.outcome(READ, accesses[READ], parts[1], None)
+            self.outcome(WRITE, accesses[WRITE], parts[2], call.octet)
             self.frame.take(call.octet, self.field(ADDRESS.start, 2), self.field(ALIAS.start, 2))
 
     def accesses(self, direction):
@@ -549,7 +550,7 @@ class Account:
             return self.mapped(direction, self.frame.field(2, 4) + index)
         return [Access(self.frame.field(4, 2) + index, "unmapped")]
 
-    def direction(self, direction, accesses, answer, octet):
+    def outcome(self, direction, accesses, answer, octet):
         """One direction of an octet call: compares its outcome, and tells what was done."""
         refusals = [self.asked(MASTER, direction, access) for access in accesses]
         for access in accesses:
