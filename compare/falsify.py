@@ -294,9 +294,47 @@ class ForgetsWaiting(station.Station):
         return super().end(number, good)
 
 
+class Unasked(station.Station):
+    """One question is not asked."""
+
+    unasked = None
+
+    def ask(self, side, kind, address, mapped_bits):
+        try:
+            super().ask(side, kind, address, mapped_bits)
+        except station.Refusal as refusal:
+            if refusal.number != self.unasked:
+                raise
+
+
+class PartsReach(Unasked):
+    """A part of an octet reaches a window (13 is not asked)."""
+
+    unasked = 13
+
+
+class AnyOrder(Unasked):
+    """An access may be ahead of the octets taken (8 is not asked)."""
+
+    unasked = 8
+
+
+class SecondMessage(Unasked):
+    """A frame goes on in a window after its closing access (7 is not asked)."""
+
+    unasked = 7
+
+
+class HighestServes(station.Station):
+    """The highest entity that covers a bit serves it."""
+
+    def entity(self, index):
+        return super().entity(7 - index)
+
+
 WRONG = (OneBuffer, NeverFresh, NewestAlways, AlwaysThere, CompleteAtOnce, NeverCancelled, NeverEmptied,
          CancelledCompletes, EveryFrameRefused, EveryEnablingRefused, ServiceRefuses, ConstantOctet,
-         SharesAreas, ForgetsWaiting)
+         SharesAreas, ForgetsWaiting, PartsReach, AnyOrder, SecondMessage, HighestServes)
 
 
 def first_objection(wrong, seeds):
