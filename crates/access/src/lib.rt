@@ -1,4 +1,6 @@
 // What channels, mapping and registers speak of in common: the side and the direction of an access, and the octets of a register field.
+#![tactic(auto)]
+
 pub mod field;
 
 // Who makes an access: the master, by a frame, or the local side, the device that the station stands in.

@@ -1,5 +1,7 @@
 // One sync manager channel: its settings, the judging of an enabling, the questions before an access, and the service from an accepted enabling
 // to the end. No memory and no frames: the station above reads and writes the memory at the places that are told here.
+#![tactic(auto)]
+
 mod facts;
 mod record;
 mod service;

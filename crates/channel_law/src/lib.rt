@@ -1,4 +1,6 @@
 // The laws of one sync manager channel in service, over whole runs: told from the calls and their answers alone.
+#![tactic(auto)]
+
 ghost use Rattle.channel_law.specs.Enabling.{EnablingsFit};
 ghost use Rattle.channel_law.specs.Law.{MessagesAreWhole};
 ghost use Rattle.channel_law.specs.Sound.{ServicesStaySound};

@@ -1,4 +1,6 @@
 // Plays scripts of calls, each on a new station, and prints what each call answers and what the memory holds at the end.
+#![tactic(auto)]
+
 ghost use Rattle.std.specs.Prelude.{◌≡◌, min};
 
 mod line;

@@ -1,5 +1,7 @@
 // The lowest entry that covers a place, for every kind of entry that tells its first and its last place.
 // Sync manager channels are found by it at an address, FMMU entities at a logical bit.
+#![tactic(auto)]
+
 ghost use Rattle.std.specs.Prelude.{◌≡◌, ℕ};
 ghost use Rattle.cover.specs.Lowest.{covers, lowest-from, Lowest};
 

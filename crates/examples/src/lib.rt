@@ -1,4 +1,6 @@
 // Worked examples and tables of cases. The crates below have no tests of their own, since a crate with tests is proved twice.
+#![tactic(auto)]
+
 mod channel_cases;
 pub mod driver;
 pub mod frame_cases;

@@ -1,4 +1,6 @@
 // Laws of the mapping, each carried by the contract of a function.
+#![tactic(auto)]
+
 ghost use Rattle.mapping_laws.specs.Lands.{EachBitLandsOnce};
 ghost use Rattle.mapping_laws.specs.Moves.{WrittenBitsComeBack};
 ghost use Rattle.mapping_laws.specs.Serves.{EveryBitServedByOne};

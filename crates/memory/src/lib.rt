@@ -1,4 +1,6 @@
 // Memories of at most 61,440 octets, by the list of what they hold. A licensee implements `Memory` for its own RAM.
+#![tactic(auto)]
+
 ghost use Rattle.std.specs.Prelude.{◌≡◌, ℕ, ◌≤◌, List, length, slice_set};
 ghost use Rattle.memory.specs.Octets.{read_of, write_of};
 

@@ -1,4 +1,6 @@
 // The station: its five calls over any memory.
+#![tactic(auto)]
+
 mod calls;
 mod machine;
 mod octets;

@@ -4,4 +4,4 @@ use Rattle.core_steps.proofs.enabling.enable_one.Goals as goal
 
 pub returns-then-asks : goal.returns-then-asks
 returns-then-asks c =
-    enables c.args.size c.args.index c.args.setting (enabled_as c.args.so-far) (enabled_as c.decided.result) c.judged.result c.decided.ensures c.judged.ensures c.if-asks.ensures
+    enables c.args.size c.args.index c.args.setting (enabled_as c.args.so_far) (enabled_as c.decided.result) c.judged.result c.decided.ensures c.judged.ensures c.if-asks.ensures

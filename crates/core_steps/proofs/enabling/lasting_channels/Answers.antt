@@ -6,4 +6,4 @@ use Rattle.core_steps.proofs.enabling.lasting_channels.Goals as goal
 
 pub returns : goal.returns
 returns c =
-    eight-lasting c.args.settings.now c.args.channels.now no_setting out_of_service c.lasting-channel.result c.lasting-channel-2.result c.lasting-channel-3.result c.lasting-channel-4.result c.lasting-channel-5.result c.lasting-channel-6.result c.lasting-channel-7.result c.lasting-channel-8.result (omega arith) (omega arith) c.lasting-channel.ensures c.lasting-channel-2.ensures c.lasting-channel-3.ensures c.lasting-channel-4.ensures c.lasting-channel-5.ensures c.lasting-channel-6.ensures c.lasting-channel-7.ensures c.lasting-channel-8.ensures
+    eight-lasting c.args.settings.now c.args.channels.now no_setting out_of_service c.lasting_channel.result c.lasting_channel-2.result c.lasting_channel-3.result c.lasting_channel-4.result c.lasting_channel-5.result c.lasting_channel-6.result c.lasting_channel-7.result c.lasting_channel-8.result (omega arith) (omega arith) c.lasting_channel.ensures c.lasting_channel-2.ensures c.lasting_channel-3.ensures c.lasting_channel-4.ensures c.lasting_channel-5.ensures c.lasting_channel-6.ensures c.lasting_channel-7.ensures c.lasting_channel-8.ensures

@@ -6,5 +6,5 @@ use Rattle.core_steps.proofs.octets.waiting_after.Goals as goal
 
 pub returns : goal.returns
 returns c =
-    c.waiting-from.ensures ∙ ap (λ a. waiting_from c.args.waiting a c.args.octet c.args.write) c.first-write.ensures
+    c.waiting_from.ensures ∙ ap (λ a. waiting_from c.args.waiting a c.args.octet c.args.write) c.first_write.ensures
     ∙ waits c.args.waiting (accesses_in Write c.args.writes.now) c.args.octet c.args.write

@@ -7,8 +7,8 @@ loop-octet-init g c = (halfway-none _ _ _ _, refl)
 
 pub loop-octet-preserved : goal.loop-octet-preserved
 loop-octet-preserved g c = (
-  rw (c.pass-one.ensures.after, c.pass-one.ensures.leaves) (halfway-more _ _ _ _ _ c.loop-octet.octets c.loop-octet.octet-index 0 (omega arith) c.loop-octet.invariant.0),
-  c.pass-one.ensures.runs ∙ c.loop-octet.invariant.1,
+  rw (c.pass_one.ensures.after, c.pass_one.ensures.leaves) (halfway-more _ _ _ _ _ c.loop-octet.octets c.loop-octet.octet-index 0 (omega arith) c.loop-octet.invariant.0),
+  c.pass_one.ensures.runs ∙ c.loop-octet.invariant.1,
 )
 
 pub returns : goal.returns

@@ -9,28 +9,28 @@ loop-free-init c = (
   omega arith,
 )
 
-pub push-bits-requires : goal.push-bits-requires
-push-bits-requires c =
+pub push_bits-requires : goal.push_bits-requires
+push_bits-requires c =
     let law = searched c.args.entities.now c.loop-free.next c.args.address (Some c.in-Some.step) c.in-Some.ensures in
     let long = length-drop c.loop-free.next c.args.entities.now in
     record {
       room = omega (arith, law.0, c.loop-free.invariant.1);
       within = found_within c.args.entities.now c.args.direction c.args.address c.loop-free.next c.in-Some.step law.1;
-      started = started c.args.entities.now c.args.direction c.args.address c.loop-free.next c.in-Some.step c.loop-free.free c.in-octet-covered.result c.bits-covered.result c.in-octet-covered.ensures c.bits-covered.ensures;
+      started = started c.args.entities.now c.args.direction c.args.address c.loop-free.next c.in-Some.step c.loop-free.free c.in_octet-covered.result c.bits_covered.result c.in_octet-covered.ensures c.bits_covered.ensures;
     }
 
 pub loop-free-preserved : goal.loop-free-preserved
 loop-free-preserved c =
     let law = searched c.args.entities.now c.loop-free.next c.args.address (Some c.in-Some.step) c.in-Some.ensures in (
-      turned c.args.entities.now c.args.direction c.args.address c.loop-free.next c.in-Some.step c.loop-free.free c.in-octet-covered.result c.bits-covered.result c.in-octet-covered.ensures c.bits-covered.ensures
-          (listed c.loop-free.found) (listed c.push-bits.new.self) law.0 law.2 (omega arith) c.push-bits.ensures.list c.loop-free.invariant.0,
-      omega (arith, c.push-bits.ensures.count, c.loop-free.invariant.1),
+      turned c.args.entities.now c.args.direction c.args.address c.loop-free.next c.in-Some.step c.loop-free.free c.in_octet-covered.result c.bits_covered.result c.in_octet-covered.ensures c.bits_covered.ensures
+          (listed c.loop-free.found) (listed c.push_bits.new.self) law.0 law.2 (omega arith) c.push_bits.ensures.list c.loop-free.invariant.0,
+      omega (arith, c.push_bits.ensures.count, c.loop-free.invariant.1),
     )
 
-pub returns-in-default : goal.returns-in-default
-returns-in-default c =
+pub returns-in_default : goal.returns-in_default
+returns-in_default c =
     walked_all c.args.entities.now c.args.direction c.args.address c.loop-free.next c.loop-free.free (listed c.loop-free.found)
-    (searched c.args.entities.now c.loop-free.next c.args.address None c.in-default.ensures) c.loop-free.invariant.0
+    (searched c.args.entities.now c.loop-free.next c.args.address None c.in_default.ensures) c.loop-free.invariant.0
 
 pub returns : goal.returns
 returns c =

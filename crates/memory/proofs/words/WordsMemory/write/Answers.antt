@@ -6,7 +6,7 @@ pub returns-then-at-count : goal.returns-then-at-count
 returns-then-at-count c =
     record {
       value = sym (word-written 30720 _ _ (omega arith));
-      after = word_set 30720 c.args.self.now.cells.now c.args.place (omega arith) _ _ c.ranges.octet.fits c.with-half.ensures;
+      after = word_set 30720 c.args.self.now.cells.now c.args.place (omega arith) _ _ c.ranges.octet.fits c.with_half.ensures;
     }
 
 pub returns-else-at-count : goal.returns-else-at-count

@@ -4,6 +4,6 @@ use Rattle.station.proofs.machine.Station.begin_promised.Goals as goal
 pub returns : goal.returns
 returns g c =
     record {
-      call = called _ _ _ _ c.begin-frame.ensures.after c.begin-frame.ensures.answer;
-      runs = c.begin-frame.ensures.runs;
+      call = called _ _ _ _ c.begin_frame.ensures.after c.begin_frame.ensures.answer;
+      runs = c.begin_frame.ensures.runs;
     }

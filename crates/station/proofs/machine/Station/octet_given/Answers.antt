@@ -10,11 +10,11 @@ use Rattle.station.proofs.machine.Station.octet_given.Goals as goal
 pub returns : goal.returns
 returns g c =
     let s : Station = over c.args.self.now.core (g.M.Memory.octets c.args.self.now.memory) in
-    let r : Reads = reads_so (over c.read-all-read.new.self.core (g.M.Memory.octets c.read-all-read.new.self.memory)) c.read-all-read.result in
-    let w : Writes = writes_so (over c.write-all-write.new.self.core (g.M.Memory.octets c.write-all-write.new.self.memory)) c.write-all-write.result in
-    let xs : List Access = accesses_in Read c.accesses-for-reads.result in
-    let ys : List Access = accesses_in Write c.accesses-for-writes.result in
+    let r : Reads = reads_so (over c.read_all-read.new.self.core (g.M.Memory.octets c.read_all-read.new.self.memory)) c.read_all-read.result in
+    let w : Writes = writes_so (over c.write_all-write.new.self.core (g.M.Memory.octets c.write_all-write.new.self.memory)) c.write_all-write.result in
+    let xs : List Access = accesses_in Read c.accesses_for-reads.result in
+    let ys : List Access = accesses_in Write c.accesses_for-writes.result in
     record {
-      after = given-after s c.args.running c.args.octet xs ys r w c.wanted-wanted.result c.wanted-wanted.ensures c.accesses-for-reads.ensures c.accesses-for-writes.ensures c.read-all-read.ensures c.write-all-write.ensures (over c.octet-taken.new.self.core (g.M.Memory.octets c.octet-taken.new.self.memory)) c.octet-taken.ensures.after;
-      answer = given-answer s c.args.running c.args.octet xs ys r w c.wanted-wanted.result c.wanted-wanted.ensures c.accesses-for-reads.ensures c.accesses-for-writes.ensures c.read-all-read.ensures c.write-all-write.ensures (octet_as c.octet-taken.result) c.octet-taken.ensures.answer;
+      after = given-after s c.args.running c.args.octet xs ys r w c.wanted-wanted.result c.wanted-wanted.ensures c.accesses_for-reads.ensures c.accesses_for-writes.ensures c.read_all-read.ensures c.write_all-write.ensures (over c.octet_taken.new.self.core (g.M.Memory.octets c.octet_taken.new.self.memory)) c.octet_taken.ensures.after;
+      answer = given-answer s c.args.running c.args.octet xs ys r w c.wanted-wanted.result c.wanted-wanted.ensures c.accesses_for-reads.ensures c.accesses_for-writes.ensures c.read_all-read.ensures c.write_all-write.ensures (octet_as c.octet_taken.result) c.octet_taken.ensures.answer;
     }

@@ -5,6 +5,6 @@ use Rattle.station.proofs.machine.Station.octet_promised.Goals as goal
 pub returns : goal.returns
 returns g c =
     record {
-      call = called _ _ _ _ c.octet-of-frame.ensures.after c.octet-of-frame.ensures.answer;
-      runs = octet-runs _ _ _ _ c.octet-of-frame.ensures.after;
+      call = called _ _ _ _ c.octet_of_frame.ensures.after c.octet_of_frame.ensures.answer;
+      runs = octet-runs _ _ _ _ c.octet_of_frame.ensures.after;
     }

@@ -8,5 +8,5 @@ use Rattle.station.proofs.machine.Station.read_mapped.Given as goal
 -- what is left gives the answer of the whole
 abbrev pub invariant-loop-access : goal.invariant-loop-access
 invariant-loop-access g l =
-    read_all (reads_so (over l.self.core (g.M.Memory.octets l.self.memory)) l.so-far) (map (through_mapping Read) (drop l.access-index l.list))
-    ≡ read_all (reads_so (over l.initial.self.core (g.M.Memory.octets l.initial.self.memory)) l.initial.so-far) (map (through_mapping Read) l.list)
+    read_all (reads_so (over l.self.core (g.M.Memory.octets l.self.memory)) l.so_far) (map (through_mapping Read) (drop l.access-index l.list))
+    ≡ read_all (reads_so (over l.initial.self.core (g.M.Memory.octets l.initial.self.memory)) l.initial.so_far) (map (through_mapping Read) l.list)

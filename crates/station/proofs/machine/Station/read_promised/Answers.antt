@@ -6,6 +6,6 @@ use Rattle.station.proofs.machine.Station.read_promised.Goals as goal
 pub returns : goal.returns
 returns g c =
     record {
-      call = called _ _ _ _ c.read-local.ensures.after c.read-local.ensures.answer;
-      runs = read-runs (over c.args.self.now.core (g.M.Memory.octets c.args.self.now.memory)) _ c.args.address c.read-local.ensures.after;
+      call = called _ _ _ _ c.read_local.ensures.after c.read_local.ensures.answer;
+      runs = read-runs (over c.args.self.now.core (g.M.Memory.octets c.args.self.now.memory)) _ c.args.address c.read_local.ensures.after;
     }

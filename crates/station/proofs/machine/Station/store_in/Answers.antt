@@ -4,5 +4,5 @@ use Rattle.station.proofs.machine.Station.store_in.Goals as goal
 
 pub returns-in-err-write : goal.returns-in-err-write
 returns-in-err-write g c =
-    let same : set (g.M.Memory.octets c.args.self.now.memory) c.store-place.result c.args.octet ≡ g.M.Memory.octets c.args.self.now.memory = refused-write _ _ _ _ c.in-err-write.ensures.value in
+    let same : set (g.M.Memory.octets c.args.self.now.memory) c.store_place.result c.args.octet ≡ g.M.Memory.octets c.args.self.now.memory = refused-write _ _ _ _ c.in-err-write.ensures.value in
     search rules

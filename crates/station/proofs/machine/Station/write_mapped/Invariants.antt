@@ -8,5 +8,5 @@ use Rattle.station.proofs.machine.Station.write_mapped.Given as goal
 -- what is left gives the answer of the whole
 abbrev pub invariant-loop-access : goal.invariant-loop-access
 invariant-loop-access g l =
-    write_all (writes_so (over l.self.core (g.M.Memory.octets l.self.memory)) l.so-far) l.octet (map (through_mapping Write) (drop l.access-index l.list))
-    ≡ write_all (writes_so (over l.initial.self.core (g.M.Memory.octets l.initial.self.memory)) l.initial.so-far) l.octet (map (through_mapping Write) l.list)
+    write_all (writes_so (over l.self.core (g.M.Memory.octets l.self.memory)) l.so_far) l.octet (map (through_mapping Write) (drop l.access-index l.list))
+    ≡ write_all (writes_so (over l.initial.self.core (g.M.Memory.octets l.initial.self.memory)) l.initial.so_far) l.octet (map (through_mapping Write) l.list)
