@@ -63,9 +63,9 @@ impl Script {
 
     // Plays the calls on a new station over the memory, and gives the memory back.
     pub fn play<M: Memory>(&mut self, memory: M) -> M
-        ensures answers { told self.new.entries.items ≡ history (begunStation (octets memory) (unwrap_or self.old.number 1)) (calls_of self.old.entries.items) }
-        ensures after { octets result ≡ (runs (begunStation (octets memory) (unwrap_or self.old.number 1)) (calls_of self.old.entries.items)).octets }
-        ensures promise { Promise (length (octets memory)) (unwrap_or self.old.number 1) (told self.new.entries.items) }
+        ensures answers { told self.new.entries.items ≡ history (begunStation (M.octets memory) (unwrap_or self.old.number 1)) (calls_of self.old.entries.items) }
+        ensures after { M.octets result ≡ (runs (begunStation (M.octets memory) (unwrap_or self.old.number 1)) (calls_of self.old.entries.items)).octets }
+        ensures promise { Promise (length (M.octets memory)) (unwrap_or self.old.number 1) (told self.new.entries.items) }
     {
         replay(memory, self.number(), self.entries.as_mut_slice())
     }

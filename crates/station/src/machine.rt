@@ -16,7 +16,7 @@ pub struct Station<M: Memory> {
 impl<M: Memory> Station<M> {
     // All registers 0, no service, no frame; the memory's octets as they are.
     pub fn new(memory: M, number: u16) -> Station<M>
-        ensures { over result.core (octets result.memory) ≡ begunStation (octets memory) number }
+        ensures { over result.core (M.octets result.memory) ≡ begunStation (M.octets memory) number }
     {
         let channel = Channel { service: None };
         Station {

@@ -14,14 +14,14 @@ use rules::fault::Fault;
 
 impl<M: Memory> Station<M> {
     pub(crate) fn begin_promised(&mut self) -> Result<Frame, Fault>
-        ensures call { Called (over self.old.core (octets self.old.memory)) BeginCall (over self.new.core (octets self.new.memory)) (begun_as result) }
+        ensures call { Called (over self.old.core (M.octets self.old.memory)) BeginCall (over self.new.core (M.octets self.new.memory)) (begun_as result) }
         ensures runs { Begun self.new.core result }
     {
         self.begin_frame()
     }
 
     pub(crate) fn octet_promised(&mut self, frame: &Frame, octet: u8) -> Result<OctetAnswer, Fault>
-        ensures call { Called (over self.old.core (octets self.old.memory)) (OctetCall frame.now.number octet) (over self.new.core (octets self.new.memory)) (octet_as result) }
+        ensures call { Called (over self.old.core (M.octets self.old.memory)) (OctetCall frame.now.number octet) (over self.new.core (M.octets self.new.memory)) (octet_as result) }
         ensures runs { frame_in self.new.core ≡ frame_in self.old.core }
     {
         self.octet_of_frame(frame, octet)
@@ -32,21 +32,21 @@ impl<M: Memory> Station<M> {
         frame: Frame,
         verdict: Verdict,
     ) -> Result<Option<Fault>, EndRefusal>
-        ensures call { Called (over self.old.core (octets self.old.memory)) (EndCall frame.number verdict) (over self.new.core (octets self.new.memory)) (ended_as result) }
+        ensures call { Called (over self.old.core (M.octets self.old.memory)) (EndCall frame.number verdict) (over self.new.core (M.octets self.new.memory)) (ended_as result) }
         ensures back { HandedBack self.old.core frame result }
     {
         self.end_frame(frame, verdict)
     }
 
     pub(crate) fn read_promised(&mut self, address: u32) -> Result<u8, Fault>
-        ensures call { Called (over self.old.core (octets self.old.memory)) (ReadCall address) (over self.new.core (octets self.new.memory)) (read_as result) }
+        ensures call { Called (over self.old.core (M.octets self.old.memory)) (ReadCall address) (over self.new.core (M.octets self.new.memory)) (read_as result) }
         ensures runs { frame_in self.new.core ≡ frame_in self.old.core }
     {
         self.read_local(address)
     }
 
     pub(crate) fn write_promised(&mut self, address: u32, octet: u8) -> Result<(), Fault>
-        ensures call { Called (over self.old.core (octets self.old.memory)) (WriteCall address octet) (over self.new.core (octets self.new.memory)) (written_as result) }
+        ensures call { Called (over self.old.core (M.octets self.old.memory)) (WriteCall address octet) (over self.new.core (M.octets self.new.memory)) (written_as result) }
         ensures runs { frame_in self.new.core ≡ frame_in self.old.core }
     {
         self.write_local(address, octet)

@@ -80,8 +80,8 @@ fn write_told(answer: Result<(), Fault>) -> Answer
 impl<M: Memory> Station<M> {
     // An octet of a frame that carries this number.
     fn octet_of(&mut self, number: u16, octet: u8) -> Answer
-        ensures after { over self.new.core (octets self.new.memory) ≡ (step (over self.old.core (octets self.old.memory)) (OctetCall number octet)).0 }
-        ensures answer { result ≡ (step (over self.old.core (octets self.old.memory)) (OctetCall number octet)).1 }
+        ensures after { over self.new.core (M.octets self.new.memory) ≡ (step (over self.old.core (M.octets self.old.memory)) (OctetCall number octet)).0 }
+        ensures answer { result ≡ (step (over self.old.core (M.octets self.old.memory)) (OctetCall number octet)).1 }
     {
         let frame = Frame { number };
         let answer = self.octet(&frame, octet);
@@ -90,16 +90,16 @@ impl<M: Memory> Station<M> {
     }
 
     fn end_of_number(&mut self, number: u16, verdict: Verdict) -> Answer
-        ensures after { over self.new.core (octets self.new.memory) ≡ (step (over self.old.core (octets self.old.memory)) (EndCall number verdict)).0 }
-        ensures answer { result ≡ (step (over self.old.core (octets self.old.memory)) (EndCall number verdict)).1 }
+        ensures after { over self.new.core (M.octets self.new.memory) ≡ (step (over self.old.core (M.octets self.old.memory)) (EndCall number verdict)).0 }
+        ensures answer { result ≡ (step (over self.old.core (M.octets self.old.memory)) (EndCall number verdict)).1 }
     {
         end_told(self.end(Frame { number }, verdict))
     }
 
     // One call of a script.
     fn perform(&mut self, call: Call) -> Answer
-        ensures after { over self.new.core (octets self.new.memory) ≡ (step (over self.old.core (octets self.old.memory)) call).0 }
-        ensures answer { result ≡ (step (over self.old.core (octets self.old.memory)) call).1 }
+        ensures after { over self.new.core (M.octets self.new.memory) ≡ (step (over self.old.core (M.octets self.old.memory)) call).0 }
+        ensures answer { result ≡ (step (over self.old.core (M.octets self.old.memory)) call).1 }
     {
         match call {
             Call::Begin => begin_told(self.begin()),
@@ -111,8 +111,8 @@ impl<M: Memory> Station<M> {
     }
 
     fn run(&mut self, script: &mut [Entry])
-        ensures answers { told script.new ≡ history (over self.old.core (octets self.old.memory)) (calls_of script.old) }
-        ensures after { over self.new.core (octets self.new.memory) ≡ runs (over self.old.core (octets self.old.memory)) (calls_of script.old) }
+        ensures answers { told script.new ≡ history (over self.old.core (M.octets self.old.memory)) (calls_of script.old) }
+        ensures after { over self.new.core (M.octets self.new.memory) ≡ runs (over self.old.core (M.octets self.old.memory)) (calls_of script.old) }
     {
         for i in 0..script.len() {
             let call = script[i].call;
@@ -123,8 +123,8 @@ impl<M: Memory> Station<M> {
 }
 
 fn replayed<M: Memory>(memory: M, number: u16, script: &mut [Entry]) -> M
-    ensures answers { told script.new ≡ history (begunStation (octets memory) number) (calls_of script.old) }
-    ensures after { octets result ≡ (runs (begunStation (octets memory) number) (calls_of script.old)).octets }
+    ensures answers { told script.new ≡ history (begunStation (M.octets memory) number) (calls_of script.old) }
+    ensures after { M.octets result ≡ (runs (begunStation (M.octets memory) number) (calls_of script.old)).octets }
 {
     let mut station = Station::new(memory, number);
     station.run(script);
@@ -133,9 +133,9 @@ fn replayed<M: Memory>(memory: M, number: u16, script: &mut [Entry]) -> M
 
 // The same, with the promise, which is proved by hand.
 fn replay_promised<M: Memory>(memory: M, number: u16, script: &mut [Entry]) -> M
-    ensures answers { told script.new ≡ history (begunStation (octets memory) number) (calls_of script.old) }
-    ensures after { octets result ≡ (runs (begunStation (octets memory) number) (calls_of script.old)).octets }
-    ensures promise { Promise (length (octets memory)) number (told script.new) }
+    ensures answers { told script.new ≡ history (begunStation (M.octets memory) number) (calls_of script.old) }
+    ensures after { M.octets result ≡ (runs (begunStation (M.octets memory) number) (calls_of script.old)).octets }
+    ensures promise { Promise (length (M.octets memory)) number (told script.new) }
 {
     replayed(memory, number, script)
 }
@@ -143,9 +143,9 @@ fn replay_promised<M: Memory>(memory: M, number: u16, script: &mut [Entry]) -> M
 // Makes a new station, does every call of the script in order, with frames of the numbers given, and leaves each answer beside its call. The
 // promise about messages holds of the calls and the answers that stand there then.
 pub fn replay<M: Memory>(memory: M, number: u16, script: &mut [Entry]) -> M
-    ensures answers { told script.new ≡ history (begunStation (octets memory) number) (calls_of script.old) }
-    ensures after { octets result ≡ (runs (begunStation (octets memory) number) (calls_of script.old)).octets }
-    ensures promise { Promise (length (octets memory)) number (told script.new) }
+    ensures answers { told script.new ≡ history (begunStation (M.octets memory) number) (calls_of script.old) }
+    ensures after { M.octets result ≡ (runs (begunStation (M.octets memory) number) (calls_of script.old)).octets }
+    ensures promise { Promise (length (M.octets memory)) number (told script.new) }
 {
     replay_promised(memory, number, script)
 }

@@ -42,8 +42,8 @@ fn octet_answer(
 impl<M: Memory> Station<M> {
     // A frame begins, unless one runs.
     pub(crate) fn begin_frame(&mut self) -> Result<Frame, Fault>
-        ensures after { over self.new.core (octets self.new.memory) ≡ (step (over self.old.core (octets self.old.memory)) BeginCall).0 }
-        ensures answer { begun_as result ≡ (step (over self.old.core (octets self.old.memory)) BeginCall).1 }
+        ensures after { over self.new.core (M.octets self.new.memory) ≡ (step (over self.old.core (M.octets self.old.memory)) BeginCall).0 }
+        ensures answer { begun_as result ≡ (step (over self.old.core (M.octets self.old.memory)) BeginCall).1 }
         ensures runs { Begun self.new.core result }
     {
         match self.core.running {
@@ -59,8 +59,8 @@ impl<M: Memory> Station<M> {
 
     // The local side reads an octet.
     pub(crate) fn read_local(&mut self, address: u32) -> Result<u8, Fault>
-        ensures after { over self.new.core (octets self.new.memory) ≡ (step (over self.old.core (octets self.old.memory)) (ReadCall address)).0 }
-        ensures answer { read_as result ≡ (step (over self.old.core (octets self.old.memory)) (ReadCall address)).1 }
+        ensures after { over self.new.core (M.octets self.new.memory) ≡ (step (over self.old.core (M.octets self.old.memory)) (ReadCall address)).0 }
+        ensures answer { read_as result ≡ (step (over self.old.core (M.octets self.old.memory)) (ReadCall address)).1 }
     {
         let octet = self.fetch(plain(Side::Local, Direction::Read, address))?;
         Ok(octet)
@@ -68,8 +68,8 @@ impl<M: Memory> Station<M> {
 
     // The local side writes an octet; into the alias it holds at once.
     pub(crate) fn write_local(&mut self, address: u32, octet: u8) -> Result<(), Fault>
-        ensures after { over self.new.core (octets self.new.memory) ≡ (step (over self.old.core (octets self.old.memory)) (WriteCall address octet)).0 }
-        ensures answer { written_as result ≡ (step (over self.old.core (octets self.old.memory)) (WriteCall address octet)).1 }
+        ensures after { over self.new.core (M.octets self.new.memory) ≡ (step (over self.old.core (M.octets self.old.memory)) (WriteCall address octet)).0 }
+        ensures answer { written_as result ≡ (step (over self.old.core (M.octets self.old.memory)) (WriteCall address octet)).1 }
     {
         self.store(plain(Side::Local, Direction::Write, address), octet)?;
         self.core.alias = with_alias(self.core.alias, register_at(address), octet);
@@ -85,7 +85,7 @@ impl<M: Memory> Station<M> {
         writes: &OctetAccesses,
         accessed: Accessed<Fault>,
     ) -> Result<OctetAnswer, Fault>
-        ensures after { over self.new.core (octets self.new.memory) ≡ over (with_running self.old.core (Runs (stepped_running running octet addresses (accesses_in Writing writes.now) accessed.read accessed.write))) (octets self.old.memory) }
+        ensures after { over self.new.core (M.octets self.new.memory) ≡ over (with_running self.old.core (Runs (stepped_running running octet addresses (accesses_in Writing writes.now) accessed.read accessed.write))) (M.octets self.old.memory) }
         ensures answer { octet_as result ≡ octet_answer accessed.read accessed.write (answered running.progress octet accessed.laid) }
     {
         let mut next = running;
@@ -96,8 +96,8 @@ impl<M: Memory> Station<M> {
 
     // Read, then write, then the frame moves on.
     fn octet_given(&mut self, running: Running, octet: u8) -> Result<OctetAnswer, Fault>
-        ensures after { over self.new.core (octets self.new.memory) ≡ (octet_given (over self.old.core (octets self.old.memory)) running octet).0 }
-        ensures answer { octet_as result ≡ (octet_given (over self.old.core (octets self.old.memory)) running octet).1 }
+        ensures after { over self.new.core (M.octets self.new.memory) ≡ (octet_given (over self.old.core (M.octets self.old.memory)) running octet).0 }
+        ensures answer { octet_as result ≡ (octet_given (over self.old.core (M.octets self.old.memory)) running octet).1 }
     {
         let wanted = running.progress.wanted();
         let addresses = Addresses {
@@ -118,8 +118,8 @@ impl<M: Memory> Station<M> {
 
     // The next octet of a frame.
     pub(crate) fn octet_of_frame(&mut self, frame: &Frame, octet: u8) -> Result<OctetAnswer, Fault>
-        ensures after { over self.new.core (octets self.new.memory) ≡ (step (over self.old.core (octets self.old.memory)) (OctetCall frame.now.number octet)).0 }
-        ensures answer { octet_as result ≡ (step (over self.old.core (octets self.old.memory)) (OctetCall frame.now.number octet)).1 }
+        ensures after { over self.new.core (M.octets self.new.memory) ≡ (step (over self.old.core (M.octets self.old.memory)) (OctetCall frame.now.number octet)).0 }
+        ensures answer { octet_as result ≡ (step (over self.old.core (M.octets self.old.memory)) (OctetCall frame.now.number octet)).1 }
     {
         match mine(self.core.number, frame.number, self.core.running) {
             None => Err(refused(Reason::NoSuchFrame, 0)),
@@ -129,7 +129,7 @@ impl<M: Memory> Station<M> {
 
     // What the frame accessed is cancelled.
     fn cancel(&mut self)
-        ensures { over self.new.core (octets self.new.memory) ≡ over (with_running (with_channels self.old.core (map dropped_channel self.old.core.channels)) NoFrame) (octets self.old.memory) }
+        ensures { over self.new.core (M.octets self.new.memory) ≡ over (with_running (with_channels self.old.core (map dropped_channel self.old.core.channels)) NoFrame) (M.octets self.old.memory) }
     {
         let channels = dropped_channels(&self.core.channels);
         self.core.channels = channels;
@@ -138,8 +138,8 @@ impl<M: Memory> Station<M> {
 
     // In order: waiting transactions complete, waiting registers are set, services end, enablings are judged. The lowest refused enabling.
     fn keep(&mut self, registers: Registers) -> Option<Fault>
-        ensures after { over self.new.core (octets self.new.memory) ≡ (kept_station (over self.old.core (octets self.old.memory)) registers (kept_channels (length (octets self.old.memory)) registers self.old.core.channels)).0 }
-        ensures answer { Keeps result ≡ (kept_station (over self.old.core (octets self.old.memory)) registers (kept_channels (length (octets self.old.memory)) registers self.old.core.channels)).1 }
+        ensures after { over self.new.core (M.octets self.new.memory) ≡ (kept_station (over self.old.core (M.octets self.old.memory)) registers (kept_channels (length (M.octets self.old.memory)) registers self.old.core.channels)).0 }
+        ensures answer { Keeps result ≡ (kept_station (over self.old.core (M.octets self.old.memory)) registers (kept_channels (length (M.octets self.old.memory)) registers self.old.core.channels)).1 }
     {
         let Enabling {
             channels,
@@ -162,8 +162,8 @@ impl<M: Memory> Station<M> {
     }
 
     fn end_of(&mut self, running: Running, verdict: Verdict) -> Result<Option<Fault>, EndRefusal>
-        ensures after { over self.new.core (octets self.new.memory) ≡ (end_of (over self.old.core (octets self.old.memory)) running (kept running.progress verdict)).0 }
-        ensures answer { ended_as result ≡ (end_of (over self.old.core (octets self.old.memory)) running (kept running.progress verdict)).1 }
+        ensures after { over self.new.core (M.octets self.new.memory) ≡ (end_of (over self.old.core (M.octets self.old.memory)) running (kept running.progress verdict)).0 }
+        ensures answer { ended_as result ≡ (end_of (over self.old.core (M.octets self.old.memory)) running (kept running.progress verdict)).1 }
         ensures spent { Spent result }
     {
         match running.progress.end(verdict) {
@@ -181,8 +181,8 @@ impl<M: Memory> Station<M> {
         frame: Frame,
         verdict: Verdict,
     ) -> Result<Option<Fault>, EndRefusal>
-        ensures after { over self.new.core (octets self.new.memory) ≡ (step (over self.old.core (octets self.old.memory)) (EndCall frame.number verdict)).0 }
-        ensures answer { ended_as result ≡ (step (over self.old.core (octets self.old.memory)) (EndCall frame.number verdict)).1 }
+        ensures after { over self.new.core (M.octets self.new.memory) ≡ (step (over self.old.core (M.octets self.old.memory)) (EndCall frame.number verdict)).0 }
+        ensures answer { ended_as result ≡ (step (over self.old.core (M.octets self.old.memory)) (EndCall frame.number verdict)).1 }
         ensures back { Same frame result }
     {
         let handed = frame.number;
