@@ -94,7 +94,7 @@ mod tests {
             (14, 0x1001, 0x1001, 0x5a, 1),
         ];
         for (command, adp, out, data, gains) in table {
-            leaves(&rt, command, adp, out, data, gains).note("addressed")?;
+            leaves(&rt, command, adp, out, data, gains)?;
         }
         Ok(())
     }
@@ -115,7 +115,7 @@ mod tests {
             (0xff, 0xffff, 0xffff, 0),
         ];
         for (command, adp, out, gains) in table {
-            leaves(&rt, command, adp, out, 0x0f, gains).note("not addressed")?;
+            leaves(&rt, command, adp, out, 0x0f, gains)?;
         }
         Ok(())
     }

@@ -49,7 +49,7 @@ mod tests {
         ];
         for (cells, size) in table {
             let mut row = vec![in rt.alloc(); 0u8; cells]?;
-            borders(&rt, &mut Row::new(row.as_mut_slice()), size).note("a row")?;
+            borders(&rt, &mut Row::new(row.as_mut_slice()), size)?;
         }
         Ok(())
     }
@@ -66,7 +66,7 @@ mod tests {
         ];
         for (cells, size) in table {
             let mut words = vec![in rt.alloc(); 0u16; cells]?;
-            borders(&rt, &mut Words::new(words.as_mut_slice()), size).note("words")?;
+            borders(&rt, &mut Words::new(words.as_mut_slice()), size)?;
         }
         Ok(())
     }
@@ -99,7 +99,7 @@ mod tests {
             let mut words = vec![in rt.alloc(); 0u16; words]?;
             let row = Row::new(row.as_mut_slice());
             let words = Words::new(words.as_mut_slice());
-            borders(&rt, &mut Joined::new(row, words), size).note("a join")?;
+            borders(&rt, &mut Joined::new(row, words), size)?;
         }
         Ok(())
     }
