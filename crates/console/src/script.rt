@@ -1,7 +1,7 @@
 // A whole script: the set-up, the calls in order, and which lines cannot be read.
 ghost use Rattle.std.specs.Prelude.{◌≡◌, length};
 ghost use Rattle.std.specs.Option.{unwrap_or};
-ghost use Rattle.rules.specs.Steps.{station as begunStation, runs, history};
+ghost use Rattle.rules.specs.Steps.{station as new_station, runs, history};
 ghost use Rattle.rules.specs.Promise.{Promise};
 ghost use Rattle.station.specs.Scripts.{calls_of, told};
 
@@ -63,8 +63,8 @@ impl Script {
 
     // Plays the calls on a new station over the memory, and gives the memory back.
     pub fn play<M: Memory>(&mut self, memory: M) -> M
-        ensures answers { told self.new.entries.items ≡ history (begunStation (M.octets memory) (unwrap_or self.old.number 1)) (calls_of self.old.entries.items) }
-        ensures after { M.octets result ≡ (runs (begunStation (M.octets memory) (unwrap_or self.old.number 1)) (calls_of self.old.entries.items)).octets }
+        ensures answers { told self.new.entries.items ≡ history (new_station (M.octets memory) (unwrap_or self.old.number 1)) (calls_of self.old.entries.items) }
+        ensures after { M.octets result ≡ (runs (new_station (M.octets memory) (unwrap_or self.old.number 1)) (calls_of self.old.entries.items)).octets }
         ensures promise { Promise (length (M.octets memory)) (unwrap_or self.old.number 1) (told self.new.entries.items) }
     {
         replay(memory, self.number(), self.entries.as_mut_slice())

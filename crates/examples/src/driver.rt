@@ -1,6 +1,5 @@
 // A driver around a station, as a device maker writes one: frames come in octet by octet, and go out in their place.
 ghost use Rattle.std.specs.Prelude.{◌≡◌};
-ghost use Rattle.rules.specs.Steps.{over};
 ghost use Rattle.station.specs.Replies.{octet_as, frame_in};
 ghost use Rattle.examples.specs.Driving.{goes_out, given, out, given_all, out_all, transmitted, transmitted_answer, transmitted_as, transmitted_out};
 
@@ -21,8 +20,8 @@ fn forwarded(answer: Result<OctetAnswer, Fault>, octet: u8) -> u8
 
 // Gives the station one octet: the one that goes out.
 fn pass_one<M: Memory>(station: &mut Station<M>, frame: &Frame, octet: u8) -> u8
-    ensures after { over station.new.core (M.Memory.octets station.new.memory) ≡ given frame.now.number (over station.old.core (M.Memory.octets station.old.memory)) octet }
-    ensures leaves { result ≡ out frame.now.number (over station.old.core (M.Memory.octets station.old.memory)) octet }
+    ensures after { station.new ≡ given frame.now.number station.old octet }
+    ensures leaves { result ≡ out frame.now.number station.old octet }
     ensures runs { frame_in station.new.core ≡ frame_in station.old.core }
 {
     forwarded(station.octet(frame, octet), octet)
@@ -30,8 +29,8 @@ fn pass_one<M: Memory>(station: &mut Station<M>, frame: &Frame, octet: u8) -> u8
 
 // Gives the station the octets of a frame one by one, and leaves in their place those that go out.
 fn pass<M: Memory>(station: &mut Station<M>, frame: &Frame, octets: &mut [u8])
-    ensures after { over station.new.core (M.Memory.octets station.new.memory) ≡ given_all frame.now.number (over station.old.core (M.Memory.octets station.old.memory)) octets.old }
-    ensures leaves { octets.new ≡ out_all frame.now.number (over station.old.core (M.Memory.octets station.old.memory)) octets.old }
+    ensures after { station.new ≡ given_all frame.now.number station.old octets.old }
+    ensures leaves { octets.new ≡ out_all frame.now.number station.old octets.old }
     ensures runs { frame_in station.new.core ≡ frame_in station.old.core }
 {
     for octet in octets.iter_mut() {
@@ -46,9 +45,9 @@ pub fn transmit<M: Memory>(
     octets: &mut [u8],
     verdict: Verdict,
 ) -> Result<Option<Fault>, Fault>
-    ensures after { over station.new.core (M.Memory.octets station.new.memory) ≡ transmitted (over station.old.core (M.Memory.octets station.old.memory)) octets.old verdict (frame_in station.old.core) }
-    ensures answer { transmitted_as (frame_in station.old.core) result ≡ transmitted_answer (over station.old.core (M.Memory.octets station.old.memory)) octets.old verdict (frame_in station.old.core) }
-    ensures leaves { octets.new ≡ transmitted_out (over station.old.core (M.Memory.octets station.old.memory)) octets.old (frame_in station.old.core) }
+    ensures after { station.new ≡ transmitted station.old octets.old verdict (frame_in station.old.core) }
+    ensures answer { transmitted_as (frame_in station.old.core) result ≡ transmitted_answer station.old octets.old verdict (frame_in station.old.core) }
+    ensures leaves { octets.new ≡ transmitted_out station.old octets.old (frame_in station.old.core) }
 {
     let frame = station.begin()?;
     pass(station, &frame, octets);

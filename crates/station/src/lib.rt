@@ -10,6 +10,6 @@ mod script;
 mod steps;
 mod token;
 
-pub use machine::Station;
+pub use calls::Station;
 pub use script::{Entry, replay};
 pub use token::{EndRefusal, Frame, OctetAnswer};

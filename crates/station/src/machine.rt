@@ -1,6 +1,6 @@
-// A station over any memory.
+// A station's core beside its memory: what the five calls work on.
 ghost use Rattle.std.specs.Prelude.{◌≡◌};
-ghost use Rattle.rules.specs.Steps.{over, station as begunStation};
+ghost use Rattle.rules.specs.Steps.{over, station as new_station};
 
 use channel::Channel;
 use core_steps::registers::no_registers;
@@ -8,18 +8,18 @@ use memory::Memory;
 use rules::data::Core;
 
 // Address 0x1000 is place 0 of the memory.
-pub struct Station<M: Memory> {
+pub(crate) struct Machine<M: Memory> {
     pub(crate) core: Core,
     pub(crate) memory: M,
 }
 
-impl<M: Memory> Station<M> {
+impl<M: Memory> Machine<M> {
     // All registers 0, no service, no frame; the memory's octets as they are.
-    pub fn new(memory: M, number: u16) -> Station<M>
-        ensures { over result.core (M.octets result.memory) ≡ begunStation (M.octets memory) number }
+    pub(crate) fn new(memory: M, number: u16) -> Machine<M>
+        ensures { over result.core (M.octets result.memory) ≡ new_station (M.octets memory) number }
     {
         let channel = Channel { service: None };
-        Station {
+        Machine {
             core: Core {
                 number,
                 registers: no_registers(),
@@ -31,10 +31,10 @@ impl<M: Memory> Station<M> {
         }
     }
 
-    pub fn into_memory(self) -> M
+    pub(crate) fn into_memory(self) -> M
         ensures { result ≡ self.memory }
     {
-        let Station { core: _, memory } = self;
+        let Machine { core: _, memory } = self;
         memory
     }
 }

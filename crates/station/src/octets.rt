@@ -6,7 +6,7 @@ ghost use Rattle.rules.specs.Octets.{plain, through_mapping};
 ghost use Rattle.rules.specs.Steps.{over, reads, writes, also_done, also_refused, read_one, write_one, reads_from, writes_from};
 ghost use Rattle.station.specs.Replies.{reads_so, writes_so};
 
-use crate::machine::Station;
+use crate::machine::Machine;
 use access::{Direction, Side};
 use bits::share::Share;
 use core_steps::octets::OctetAccesses;
@@ -67,7 +67,7 @@ fn also_refused<T: Drop>(so_far: Outcome<T, Fault>, fault: Fault) -> Outcome<T, 
     }
 }
 
-impl<M: Memory> Station<M> {
+impl<M: Memory> Machine<M> {
     fn read_one(&mut self, access: Access, so_far: Gathered) -> Gathered
         ensures { reads_so (over self.new.core (M.octets self.new.memory)) result ≡ read_one access (reads_so (over self.old.core (M.octets self.old.memory)) so_far) (reads (over self.old.core (M.octets self.old.memory)) access).after (reads (over self.old.core (M.octets self.old.memory)) access).says }
     {

@@ -6,13 +6,13 @@ ghost use Rattle.rules.specs.Steps.{over};
 ghost use Rattle.rules.specs.After.{Called};
 ghost use Rattle.station.specs.Replies.{begun_as, octet_as, ended_as, read_as, written_as, frame_in, Begun, HandedBack};
 
-use crate::machine::Station;
+use crate::machine::Machine;
 use crate::token::{EndRefusal, Frame, OctetAnswer};
 use frame::progress::Verdict;
 use memory::Memory;
 use rules::fault::Fault;
 
-impl<M: Memory> Station<M> {
+impl<M: Memory> Machine<M> {
     pub(crate) fn begin_promised(&mut self) -> Result<Frame, Fault>
         ensures call { Called (over self.old.core (M.octets self.old.memory)) BeginCall (over self.new.core (M.octets self.new.memory)) (begun_as result) }
         ensures runs { Begun self.new.core result }

@@ -5,7 +5,7 @@ ghost use Rattle.channel.specs.Services.{store_place, fetch_place};
 ghost use Rattle.rules.specs.Steps.{over, service_at, asked_of, register_at, fetch_in, store_in, fetch_free, store_free, fetch_window, store_window, fetched, stored_by, reads, writes};
 ghost use Rattle.station.specs.Replies.{reply};
 
-use crate::machine::Station;
+use crate::machine::Machine;
 use bits::share::Share;
 use channel::Service;
 use core_steps::questions::{ask_area, ask_register, is_mappable, refused};
@@ -14,7 +14,7 @@ use memory::Memory;
 use rules::data::{Access, Register, Target};
 use rules::fault::{Fault, Reason};
 
-impl<M: Memory> Station<M> {
+impl<M: Memory> Machine<M> {
     // All questions before an access, in their order; the memory is asked whether it has the place.
     fn asked(&mut self, access: Access) -> Result<Target, Fault>
         ensures value { result ≡ asked_of (over self.old.core (M.octets self.old.memory)) access }

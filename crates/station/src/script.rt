@@ -1,12 +1,12 @@
 // A script of calls, done one after the other from a new station on.
 ghost use Rattle.std.specs.Prelude.{◌≡◌, length};
 ghost use Rattle.rules.specs.declared.data.Call.TheVariants.{Octet as OctetCall, End as EndCall};
-ghost use Rattle.rules.specs.Steps.{over, station as begunStation, step, runs, history};
+ghost use Rattle.rules.specs.Steps.{station as new_station, step, runs, history};
 ghost use Rattle.rules.specs.Promise.{Promise};
 ghost use Rattle.station.specs.Replies.{begun_as, octet_as, ended_as, read_as, written_as};
 ghost use Rattle.station.specs.Scripts.{calls_of, told};
 
-use crate::machine::Station;
+use crate::calls::Station;
 use crate::token::{EndRefusal, Frame, OctetAnswer};
 use core_steps::questions::refused;
 use frame::progress::Verdict;
@@ -80,8 +80,8 @@ fn write_told(answer: Result<(), Fault>) -> Answer
 impl<M: Memory> Station<M> {
     // An octet of a frame that carries this number.
     fn octet_of(&mut self, number: u16, octet: u8) -> Answer
-        ensures after { over self.new.core (M.octets self.new.memory) ≡ (step (over self.old.core (M.octets self.old.memory)) (OctetCall number octet)).0 }
-        ensures answer { result ≡ (step (over self.old.core (M.octets self.old.memory)) (OctetCall number octet)).1 }
+        ensures after { self.new ≡ (step self.old (OctetCall number octet)).0 }
+        ensures answer { result ≡ (step self.old (OctetCall number octet)).1 }
     {
         let frame = Frame { number };
         let answer = self.octet(&frame, octet);
@@ -90,16 +90,16 @@ impl<M: Memory> Station<M> {
     }
 
     fn end_of_number(&mut self, number: u16, verdict: Verdict) -> Answer
-        ensures after { over self.new.core (M.octets self.new.memory) ≡ (step (over self.old.core (M.octets self.old.memory)) (EndCall number verdict)).0 }
-        ensures answer { result ≡ (step (over self.old.core (M.octets self.old.memory)) (EndCall number verdict)).1 }
+        ensures after { self.new ≡ (step self.old (EndCall number verdict)).0 }
+        ensures answer { result ≡ (step self.old (EndCall number verdict)).1 }
     {
         end_told(self.end(Frame { number }, verdict))
     }
 
     // One call of a script.
     fn perform(&mut self, call: Call) -> Answer
-        ensures after { over self.new.core (M.octets self.new.memory) ≡ (step (over self.old.core (M.octets self.old.memory)) call).0 }
-        ensures answer { result ≡ (step (over self.old.core (M.octets self.old.memory)) call).1 }
+        ensures after { self.new ≡ (step self.old call).0 }
+        ensures answer { result ≡ (step self.old call).1 }
     {
         match call {
             Call::Begin => begin_told(self.begin()),
@@ -111,8 +111,8 @@ impl<M: Memory> Station<M> {
     }
 
     fn run(&mut self, script: &mut [Entry])
-        ensures answers { told script.new ≡ history (over self.old.core (M.octets self.old.memory)) (calls_of script.old) }
-        ensures after { over self.new.core (M.octets self.new.memory) ≡ runs (over self.old.core (M.octets self.old.memory)) (calls_of script.old) }
+        ensures answers { told script.new ≡ history self.old (calls_of script.old) }
+        ensures after { self.new ≡ runs self.old (calls_of script.old) }
     {
         for i in 0..script.len() {
             let call = script[i].call;
@@ -123,8 +123,8 @@ impl<M: Memory> Station<M> {
 }
 
 fn replayed<M: Memory>(memory: M, number: u16, script: &mut [Entry]) -> M
-    ensures answers { told script.new ≡ history (begunStation (M.octets memory) number) (calls_of script.old) }
-    ensures after { M.octets result ≡ (runs (begunStation (M.octets memory) number) (calls_of script.old)).octets }
+    ensures answers { told script.new ≡ history (new_station (M.octets memory) number) (calls_of script.old) }
+    ensures after { M.octets result ≡ (runs (new_station (M.octets memory) number) (calls_of script.old)).octets }
 {
     let mut station = Station::new(memory, number);
     station.run(script);
@@ -133,8 +133,8 @@ fn replayed<M: Memory>(memory: M, number: u16, script: &mut [Entry]) -> M
 
 // The same, with the promise, which is proved by hand.
 fn replay_promised<M: Memory>(memory: M, number: u16, script: &mut [Entry]) -> M
-    ensures answers { told script.new ≡ history (begunStation (M.octets memory) number) (calls_of script.old) }
-    ensures after { M.octets result ≡ (runs (begunStation (M.octets memory) number) (calls_of script.old)).octets }
+    ensures answers { told script.new ≡ history (new_station (M.octets memory) number) (calls_of script.old) }
+    ensures after { M.octets result ≡ (runs (new_station (M.octets memory) number) (calls_of script.old)).octets }
     ensures promise { Promise (length (M.octets memory)) number (told script.new) }
 {
     replayed(memory, number, script)
@@ -143,8 +143,8 @@ fn replay_promised<M: Memory>(memory: M, number: u16, script: &mut [Entry]) -> M
 // Makes a new station, does every call of the script in order, with frames of the numbers given, and leaves each answer beside its call. The
 // promise about messages holds of the calls and the answers that stand there then.
 pub fn replay<M: Memory>(memory: M, number: u16, script: &mut [Entry]) -> M
-    ensures answers { told script.new ≡ history (begunStation (M.octets memory) number) (calls_of script.old) }
-    ensures after { M.octets result ≡ (runs (begunStation (M.octets memory) number) (calls_of script.old)).octets }
+    ensures answers { told script.new ≡ history (new_station (M.octets memory) number) (calls_of script.old) }
+    ensures after { M.octets result ≡ (runs (new_station (M.octets memory) number) (calls_of script.old)).octets }
     ensures promise { Promise (length (M.octets memory)) number (told script.new) }
 {
     replay_promised(memory, number, script)

@@ -8,7 +8,7 @@ ghost use Rattle.rules.specs.declared.data.Answer.TheVariants.{Kept as Keeps};
 ghost use Rattle.rules.specs.Steps.{over, with_running, with_channels, dropped_channel, octet_answer, octet_given, kept_channels, kept_station, end_of, step};
 ghost use Rattle.station.specs.Replies.{begun_as, octet_as, ended_as, read_as, written_as, Begun, Same, Spent};
 
-use crate::machine::Station;
+use crate::machine::Machine;
 use crate::octets::plain;
 use crate::token::{EndRefusal, Frame, OctetAnswer};
 use access::{Direction, Side};
@@ -39,7 +39,7 @@ fn octet_answer(
     }
 }
 
-impl<M: Memory> Station<M> {
+impl<M: Memory> Machine<M> {
     // A frame begins, unless one runs.
     pub(crate) fn begin_frame(&mut self) -> Result<Frame, Fault>
         ensures after { over self.new.core (M.octets self.new.memory) ≡ (step (over self.old.core (M.octets self.old.memory)) BeginCall).0 }

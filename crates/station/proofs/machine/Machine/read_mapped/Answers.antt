@@ -1,6 +1,6 @@
 use Rattle.std.proofs.Common.{arith}
 use Rattle.station.proofs.Loops.{reads_more, reads_all}
-use Rattle.station.proofs.machine.Station.read_mapped.Goals as goal
+use Rattle.station.proofs.machine.Machine.read_mapped.Goals as goal
 
 pub loop-access-preserved : goal.loop-access-preserved
 loop-access-preserved g c =

@@ -1,6 +1,6 @@
 use Rattle.std.proofs.Common.{◌≡◌, set, rules}
 use Rattle.station.proofs.Refused.{refused-write}
-use Rattle.station.proofs.machine.Station.store_in.Goals as goal
+use Rattle.station.proofs.machine.Machine.store_in.Goals as goal
 
 pub returns-in_err-write : goal.returns-in_err-write
 returns-in_err-write g c =

@@ -3,7 +3,7 @@ use Rattle.access.specs.declared.Direction.TheVariants.{Write}
 use Rattle.rules.specs.Octets.{through_mapping}
 use Rattle.rules.specs.Steps.{over, write_all}
 use Rattle.station.specs.Replies.{writes_so}
-use Rattle.station.proofs.machine.Station.write_mapped.Given as goal
+use Rattle.station.proofs.machine.Machine.write_mapped.Given as goal
 
 -- what is left gives the answer of the whole
 abbrev pub invariant-loop-access : goal.invariant-loop-access

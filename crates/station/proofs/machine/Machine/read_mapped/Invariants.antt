@@ -3,7 +3,7 @@ use Rattle.access.specs.declared.Direction.TheVariants.{Read}
 use Rattle.rules.specs.Octets.{through_mapping}
 use Rattle.rules.specs.Steps.{over, read_all}
 use Rattle.station.specs.Replies.{reads_so}
-use Rattle.station.proofs.machine.Station.read_mapped.Given as goal
+use Rattle.station.proofs.machine.Machine.read_mapped.Given as goal
 
 -- what is left gives the answer of the whole
 abbrev pub invariant-loop-access : goal.invariant-loop-access

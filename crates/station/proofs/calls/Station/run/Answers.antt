@@ -1,6 +1,6 @@
 use Rattle.std.proofs.Common.{arith}
 use Rattle.station.proofs.Running.{half-none, half-more, half-all-answers, half-all-after}
-use Rattle.station.proofs.machine.Station.run.Goals as goal
+use Rattle.station.proofs.calls.Station.run.Goals as goal
 
 pub loop-i-init : goal.loop-i-init
 loop-i-init g c = half-none _ _

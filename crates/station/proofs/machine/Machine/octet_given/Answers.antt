@@ -5,7 +5,7 @@ use Rattle.rules.specs.Steps.{Station, Reads, Writes, over}
 use Rattle.core_steps.specs.Accessing.{accesses_in}
 use Rattle.station.specs.Replies.{reads_so, writes_so, octet_as}
 use Rattle.station.proofs.Given.{given-after, given-answer}
-use Rattle.station.proofs.machine.Station.octet_given.Goals as goal
+use Rattle.station.proofs.machine.Machine.octet_given.Goals as goal
 
 pub returns : goal.returns
 returns g c =

@@ -1,5 +1,5 @@
 use Rattle.rules.proofs.After.{called}
-use Rattle.station.proofs.machine.Station.begin_promised.Goals as goal
+use Rattle.station.proofs.machine.Machine.begin_promised.Goals as goal
 
 pub returns : goal.returns
 returns g c =

@@ -1,6 +1,6 @@
 use Rattle.rules.proofs.After.{called}
 use Rattle.station.proofs.Frames.{octet-runs}
-use Rattle.station.proofs.machine.Station.octet_promised.Goals as goal
+use Rattle.station.proofs.machine.Machine.octet_promised.Goals as goal
 
 pub returns : goal.returns
 returns g c =

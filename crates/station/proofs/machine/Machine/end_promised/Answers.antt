@@ -1,6 +1,6 @@
 use Rattle.rules.proofs.After.{called}
 use Rattle.station.proofs.Frames.{handed-back}
-use Rattle.station.proofs.machine.Station.end_promised.Goals as goal
+use Rattle.station.proofs.machine.Machine.end_promised.Goals as goal
 
 pub returns : goal.returns
 returns g c =

@@ -1,6 +1,6 @@
 use Rattle.std.proofs.Common.{arith}
 use Rattle.station.proofs.Loops.{writes_more, writes-all}
-use Rattle.station.proofs.machine.Station.write_mapped.Goals as goal
+use Rattle.station.proofs.machine.Machine.write_mapped.Goals as goal
 
 pub loop-access-preserved : goal.loop-access-preserved
 loop-access-preserved g c =

@@ -1,7 +1,7 @@
 use Rattle.rules.specs.Steps.{over}
 use Rattle.rules.proofs.After.{called}
 use Rattle.station.proofs.Frames.{write-runs}
-use Rattle.station.proofs.machine.Station.write_promised.Goals as goal
+use Rattle.station.proofs.machine.Machine.write_promised.Goals as goal
 
 pub returns : goal.returns
 returns g c =
