@@ -1,6 +1,6 @@
 // A driver around a station, as a device maker writes one: frames come in octet by octet, and go out in their place.
 ghost use Rattle.std.specs.Prelude.{◌≡◌};
-ghost use Rattle.station.specs.Replies.{octet_as, frame_in};
+ghost use Rattle.station.specs.Replies.{octet_as, frame_in, SameFrame};
 ghost use Rattle.examples.specs.Driving.{goes_out, given, out, given_all, out_all, transmitted, transmitted_answer, transmitted_as, transmitted_out};
 
 use frame::progress::Verdict;
@@ -22,7 +22,7 @@ fn forwarded(answer: Result<OctetAnswer, Fault>, octet: u8) -> u8
 fn pass_one<M: Memory>(station: &mut Station<M>, frame: &Frame, octet: u8) -> u8
     ensures after { station.new ≡ given frame.now.number station.old octet }
     ensures leaves { result ≡ out frame.now.number station.old octet }
-    ensures runs { frame_in station.new.core ≡ frame_in station.old.core }
+    ensures frame { SameFrame station.old station.new }
 {
     forwarded(station.octet(frame, octet), octet)
 }
@@ -31,7 +31,7 @@ fn pass_one<M: Memory>(station: &mut Station<M>, frame: &Frame, octet: u8) -> u8
 fn pass<M: Memory>(station: &mut Station<M>, frame: &Frame, octets: &mut [u8])
     ensures after { station.new ≡ given_all frame.now.number station.old octets.old }
     ensures leaves { octets.new ≡ out_all frame.now.number station.old octets.old }
-    ensures runs { frame_in station.new.core ≡ frame_in station.old.core }
+    ensures frame { SameFrame station.old station.new }
 {
     for octet in octets.iter_mut() {
         *octet = pass_one(station, frame, *octet);
@@ -54,6 +54,6 @@ pub fn transmit<M: Memory>(
     match station.end(frame, verdict) {
         Ok(enabling) => Ok(enabling),
         Err(EndRefusal::Dropped(fault)) => Err(fault),
-        Err(EndRefusal::NotThisFrame(_frame)) => unreachable(),
+        Err(EndRefusal::NotThisFrame(_frame)) => unreachable!(),
     }
 }

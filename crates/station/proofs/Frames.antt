@@ -20,11 +20,11 @@ use Rattle.rules.specs.declared.data.Core.{Core}
 use Rattle.rules.specs.declared.data.Running.{Running}
 use Rattle.rules.specs.declared.data.Call.TheVariants.{Octet, End, Read as ReadAt, Write as WriteAt}
 use Rattle.rules.specs.Octets.{plain, accesses_of, mine}
-use Rattle.rules.specs.Steps.{Station, Reads, Writes, service_at, asked_of, fetch_in, store_in, fetch_free, store_free, fetch_window, store_window, fetched, stored_by, reads, writes, read_one, read_all, write_one, write_all, reads_from, writes_from, octet_step, end_of, end_step, read_step, write_step, step, no_such_frame}
+use Rattle.rules.specs.Steps.{Station, Reply, Reads, Writes, service_at, asked_of, fetch_in, store_in, fetch_free, store_free, fetch_window, store_window, fetched, stored_by, reads, writes, read_one, read_all, write_one, write_all, reads_from, writes_from, octet_step, end_of, end_step, read_step, write_step, step, no_such_frame}
 use Rattle.station.specs.declared.token.Frame.{Frame}
 use Rattle.station.specs.declared.token.EndRefusal.{EndRefusal}
 use Rattle.station.specs.declared.token.EndRefusal.TheVariants.{NotThisFrame, Dropped}
-use Rattle.station.specs.Replies.{ended_as, frame_in, Same, HandedBack}
+use Rattle.station.specs.Replies.{reply, ended_as, frame_in, SameFrame, Same, HandedBack}
 
 -- the frame that runs at a station
 abbrev runs_at : Station → Option ℕ
@@ -67,6 +67,12 @@ target-written s x o (Ok (Register p)) = refl
 target-written s x o (Ok (Free p)) = free-written s x.share p o (read_of s.octets p)
 target-written s x o (Ok (Window n k)) = window-written s x.share n k _ o (service_at s.core.channels n)
 
+pub fetch_same : (s next : Station) (x : Access) (r : Result ℕ Fault) → reply next r ≡ reads s x → SameFrame s next
+fetch_same s next x r e = record { runs = ap (λ (t : Reply ℕ). runs_at t.after) e ∙ target-read s x (asked_of s x) }
+
+pub store_same : (s next : Station) (x : Access) (o : ℕ) (r : Result (Unit {0}) Fault) → reply next r ≡ writes s x o → SameFrame s next
+store_same s next x o r e = record { runs = ap (λ (t : Reply (Unit {0})). runs_at t.after) e ∙ target-written s x o (asked_of s x) }
+
 -- ALL ACCESSES of an octet leave it.
 one-read : (x : Access) (t : Reads) (s : Station) (r : Result ℕ Fault) → (read_one x t s r).after ≡ s
 one-read x t s (Ok v) = refl
@@ -87,25 +93,6 @@ all-written t o [] = refl
 all-written t o (x ∷ xs) =
     all-written (write_one t (writes t.after x o).after (writes t.after x o).says) o xs
     ∙ (ap runs_at (one_written t (writes t.after x o).after (writes t.after x o).says) ∙ target-written t.after x o (asked_of t.after x))
-
--- LOCAL CALLS leave it.
-read-after : (s : Station) (r : Result ℕ Fault) → (read_step s r).0 ≡ s
-read-after s (Ok v) = refl
-read-after s (Err f) = refl
-
-pub read-runs : (s next : Station) (a : ℕ) → next ≡ (step s (ReadAt a)).0 → runs_at next ≡ runs_at s
-read-runs s next a goes =
-    let x = plain Local Read a in
-    ap runs_at goes ∙ (ap runs_at (read-after (reads s x).after (reads s x).says) ∙ target-read s x (asked_of s x))
-
-written_after : (s : Station) (a o : ℕ) (r : Result (Unit {0}) Fault) → runs_at (write_step s a o r).0 ≡ runs_at s
-written_after s a o (Ok v) = refl
-written_after s a o (Err f) = refl
-
-pub write-runs : (s next : Station) (a o : ℕ) → next ≡ (step s (WriteAt a o)).0 → runs_at next ≡ runs_at s
-write-runs s next a o goes =
-    let x = plain Local Write a in
-    ap runs_at goes ∙ (written_after (writes s x o).after a o (writes s x o).says ∙ target-written s x o (asked_of s x))
 
 -- AN OCTET leaves it.
 some_number : (a b : ℕ) → ◌≡◌ {A = Option ℕ} (Some a) (Some b) → a ≡ b
@@ -138,8 +125,8 @@ octet-after s o number n (Some f) e g = go (eqb number n)
     go true = ap Some (number_of wr.after.core.number s.core.number wr.after.core.running (through ∙ before)) ∙ sym before
     go false = refl
 
-pub octet-runs : (s next : Station) (n o : ℕ) → next ≡ (step s (Octet n o)).0 → runs_at next ≡ runs_at s
-octet-runs s next n o goes = ap runs_at goes ∙ octet-after s o s.core.number n s.core.running refl refl
+pub octet_same : (s next : Station) (n o : ℕ) → next ≡ (step s (Octet n o)).0 → SameFrame s next
+octet_same s next n o goes = record { runs = ap runs_at goes ∙ octet-after s o s.core.number n s.core.running refl refl }
 
 -- AN END that hands a frame back is not that of the frame that runs.
 not-refused : (s : Station) (f : Running) (r : Result (Unit {0}) Reason) → no_such_frame ≡ (end_of s f r).1 → ⊥
@@ -152,7 +139,7 @@ stray s v number n (Some f) e i =
     not-refused s f (kept f.progress v)
     (e ∙ ap (λ (o : Option Running). (end_step s v o).1) (cond-true (eqb number n) (Some f) None (eq-eqb number n (some_number number n i))))
 
-pub handed-back : (s : Station) (f : Frame) (v : Verdict) (r : Result (Option Fault) EndRefusal) → ended_as r ≡ (step s (End f.number v)).1 → Same f r → HandedBack s.core f r
-handed-back s f v (Ok e) h g = tt
-handed-back s f v (Err (NotThisFrame b)) h g = (g, λ i. stray s v s.core.number f.number s.core.running h i)
-handed-back s f v (Err (Dropped e)) h g = tt
+pub handed_back : (s : Station) (f : Frame) (v : Verdict) (r : Result (Option Fault) EndRefusal) → ended_as r ≡ (step s (End f.number v)).1 → Same f r → HandedBack s.core f r
+handed_back s f v (Ok e) h g = tt
+handed_back s f v (Err (NotThisFrame b)) h g = (g, λ i. stray s v s.core.number f.number s.core.running h i)
+handed_back s f v (Err (Dropped e)) h g = tt

@@ -51,6 +51,10 @@ written_as (Err f) = Refuse f
 abbrev pub frame_in : Core → Option ℕ
 frame_in c = option_map (λ f. c.number) c.running
 
+-- no frame begins or ends: the one that ran, if one did, runs still
+pub record SameFrame (before after : Station) : Type 0 where
+  pub runs : frame_in after.core ≡ frame_in before.core
+
 -- a frame that was begun is the one that runs
 abbrev pub Begun : (after : Core) → Result Frame Fault → Type 0
 Begun c (Ok f) = frame_in c ≡ Some f.number

@@ -5,7 +5,7 @@ ghost use Rattle.std.specs.Prelude.{◌≡◌};
 ghost use Rattle.rules.specs.declared.data.Call.TheVariants.{Begin as BeginCall, Octet as OctetCall, End as EndCall, Read as ReadCall, Write as WriteCall};
 ghost use Rattle.rules.specs.Steps.{station as new_station, step};
 ghost use Rattle.rules.specs.After.{Promised};
-ghost use Rattle.station.specs.Replies.{begun_as, octet_as, ended_as, read_as, written_as, frame_in, Begun, HandedBack};
+ghost use Rattle.station.specs.Replies.{begun_as, octet_as, ended_as, read_as, written_as, SameFrame, Begun, HandedBack};
 
 use crate::machine::Machine;
 use crate::token::{EndRefusal, Frame, OctetAnswer};
@@ -45,52 +45,57 @@ impl<M: Memory> Station<M> {
     }
 
     // A frame begins, unless one runs.
+    #[tactic(auto, using(rules::proofs::After::promised))]
     pub fn begin(&mut self) -> Result<Frame, Fault>
         ensures after { self.new ≡ (step self.old BeginCall).0 }
         ensures answer { begun_as result ≡ (step self.old BeginCall).1 }
         ensures runs { Begun self.new.core result }
         ensures promise { Promised self.old BeginCall self.new (begun_as result) }
     {
-        self.machine.begin_promised()
+        self.machine.begin_frame()
     }
 
     // The next octet of a frame.
+    #[tactic(auto, using(rules::proofs::After::promised, crate::proofs::Frames::octet_same))]
     pub fn octet(&mut self, frame: &Frame, octet: u8) -> Result<OctetAnswer, Fault>
         ensures after { self.new ≡ (step self.old (OctetCall frame.now.number octet)).0 }
         ensures answer { octet_as result ≡ (step self.old (OctetCall frame.now.number octet)).1 }
-        ensures runs { frame_in self.new.core ≡ frame_in self.old.core }
+        ensures frame { SameFrame self.old self.new }
         ensures promise { Promised self.old (OctetCall frame.now.number octet) self.new (octet_as result) }
     {
-        self.machine.octet_promised(frame, octet)
+        self.machine.octet_of_frame(frame, octet)
     }
 
     // A frame ends: kept, with the lowest refused enabling if any, or dropped; one that is not this station's running frame is handed back.
+    #[tactic(auto, using(rules::proofs::After::promised, crate::proofs::Frames::handed_back))]
     pub fn end(&mut self, frame: Frame, verdict: Verdict) -> Result<Option<Fault>, EndRefusal>
         ensures after { self.new ≡ (step self.old (EndCall frame.number verdict)).0 }
         ensures answer { ended_as result ≡ (step self.old (EndCall frame.number verdict)).1 }
         ensures back { HandedBack self.old.core frame result }
         ensures promise { Promised self.old (EndCall frame.number verdict) self.new (ended_as result) }
     {
-        self.machine.end_promised(frame, verdict)
+        self.machine.end_frame(frame, verdict)
     }
 
     // The local side reads an octet.
+    #[tactic(auto, using(rules::proofs::After::promised))]
     pub fn read(&mut self, address: u32) -> Result<u8, Fault>
         ensures after { self.new ≡ (step self.old (ReadCall address)).0 }
         ensures answer { read_as result ≡ (step self.old (ReadCall address)).1 }
-        ensures runs { frame_in self.new.core ≡ frame_in self.old.core }
+        ensures frame { SameFrame self.old self.new }
         ensures promise { Promised self.old (ReadCall address) self.new (read_as result) }
     {
-        self.machine.read_promised(address)
+        self.machine.read_local(address)
     }
 
     // The local side writes an octet.
+    #[tactic(auto, using(rules::proofs::After::promised))]
     pub fn write(&mut self, address: u32, octet: u8) -> Result<(), Fault>
         ensures after { self.new ≡ (step self.old (WriteCall address octet)).0 }
         ensures answer { written_as result ≡ (step self.old (WriteCall address octet)).1 }
-        ensures runs { frame_in self.new.core ≡ frame_in self.old.core }
+        ensures frame { SameFrame self.old self.new }
         ensures promise { Promised self.old (WriteCall address octet) self.new (written_as result) }
     {
-        self.machine.write_promised(address, octet)
+        self.machine.write_local(address, octet)
     }
 }

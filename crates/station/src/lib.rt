@@ -4,7 +4,6 @@
 mod calls;
 mod machine;
 mod octets;
-mod promised;
 mod reach;
 mod script;
 mod steps;

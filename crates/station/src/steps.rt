@@ -6,7 +6,7 @@ ghost use Rattle.access.specs.declared.Direction.TheVariants.{Write as Writing};
 ghost use Rattle.rules.specs.declared.data.Call.TheVariants.{Begin as BeginCall, Octet as OctetCall, End as EndCall, Read as ReadCall, Write as WriteCall};
 ghost use Rattle.rules.specs.declared.data.Answer.TheVariants.{Kept as Keeps};
 ghost use Rattle.rules.specs.Steps.{over, with_running, with_channels, dropped_channel, octet_answer, octet_given, kept_channels, kept_station, end_of, step};
-ghost use Rattle.station.specs.Replies.{begun_as, octet_as, ended_as, read_as, written_as, Begun, Same, Spent};
+ghost use Rattle.station.specs.Replies.{begun_as, octet_as, ended_as, read_as, written_as, Begun, SameFrame, Same, Spent};
 
 use crate::machine::Machine;
 use crate::octets::plain;
@@ -58,18 +58,22 @@ impl<M: Memory> Machine<M> {
     }
 
     // The local side reads an octet.
+    #[tactic(auto, using(crate::proofs::Frames::fetch_same))]
     pub(crate) fn read_local(&mut self, address: u32) -> Result<u8, Fault>
         ensures after { over self.new.core (M.octets self.new.memory) ≡ (step (over self.old.core (M.octets self.old.memory)) (ReadCall address)).0 }
         ensures answer { read_as result ≡ (step (over self.old.core (M.octets self.old.memory)) (ReadCall address)).1 }
+        ensures frame { SameFrame (over self.old.core (M.octets self.old.memory)) (over self.new.core (M.octets self.new.memory)) }
     {
         let octet = self.fetch(plain(Side::Local, Direction::Read, address))?;
         Ok(octet)
     }
 
     // The local side writes an octet; into the alias it holds at once.
+    #[tactic(auto, using(crate::proofs::Frames::store_same))]
     pub(crate) fn write_local(&mut self, address: u32, octet: u8) -> Result<(), Fault>
         ensures after { over self.new.core (M.octets self.new.memory) ≡ (step (over self.old.core (M.octets self.old.memory)) (WriteCall address octet)).0 }
         ensures answer { written_as result ≡ (step (over self.old.core (M.octets self.old.memory)) (WriteCall address octet)).1 }
+        ensures frame { SameFrame (over self.old.core (M.octets self.old.memory)) (over self.new.core (M.octets self.new.memory)) }
     {
         self.store(plain(Side::Local, Direction::Write, address), octet)?;
         self.core.alias = with_alias(self.core.alias, register_at(address), octet);

@@ -1,5 +1,4 @@
-use Rattle.std.proofs.Common.{◌≡◌}
-use Rattle.station.specs.Replies.{frame_in}
+use Rattle.station.specs.Replies.{SameFrame}
 use Rattle.examples.specs.Driving.{given, out}
 use Rattle.examples.proofs.InPlace.{Halfway}
 use Rattle.examples.proofs.driver.pass.Given as given-here
@@ -7,4 +6,4 @@ use Rattle.examples.proofs.driver.pass.Given as given-here
 abbrev pub invariant-loop-octet : given-here.invariant-loop-octet
 invariant-loop-octet g l =
     Halfway (given l.frame.number) (out l.frame.number) l.initial.station l.initial.octets l.station l.octets l.octet-index
-    × (frame_in l.station.core ≡ frame_in l.initial.station.core)
+    × SameFrame l.initial.station l.station
