@@ -1,9 +1,7 @@
 // What a frame's end makes of the channels: services that go on, that end and that begin.
-ghost use Rattle.std.specs.Prelude.{◌≡◌, not, map, Some, slice_set};
+ghost use Rattle.std.specs.Prelude.{◌≡◌, map, Some, slice_set};
 ghost use Rattle.rules.specs.declared.fault.Fault.TheVariants.{Station as Refuses};
 ghost use Rattle.rules.specs.declared.fault.Reason.TheVariants.{Enabling as OfEnabling};
-ghost use Rattle.std.specs.Option.{option_map};
-ghost use Rattle.rules.specs.Questions.{in_service};
 ghost use Rattle.rules.specs.Enabling.{disabled, decided, asks, enabled_one, enabled};
 ghost use Rattle.rules.specs.Steps.{out_of_service, window_in, begun_channel, kept_channel, dropped_channel, kept_channels};
 ghost use Rattle.core_steps.specs.Enablings.{enabled_as, lasting_kept, all_lasting};
@@ -24,11 +22,8 @@ pub struct Enabling {
 fn dropped_channel(channel: Channel) -> Channel
     ensures { result ≡ dropped_channel channel }
 {
-    match channel.service {
-        None => channel,
-        Some(service) => Channel {
-            service: Some(service.after_dropped()),
-        },
+    Channel {
+        service: channel.service.map(|service| service.after_dropped()),
     }
 }
 
@@ -36,26 +31,18 @@ fn dropped_channel(channel: Channel) -> Channel
 pub fn dropped_channels(channels: &[Channel; 8]) -> [Channel; 8]
     ensures { result ≡ map dropped_channel channels.now }
 {
-    [
-        dropped_channel(channels[0]),
-        dropped_channel(channels[1]),
-        dropped_channel(channels[2]),
-        dropped_channel(channels[3]),
-        dropped_channel(channels[4]),
-        dropped_channel(channels[5]),
-        dropped_channel(channels[6]),
-        dropped_channel(channels[7]),
-    ]
+    let mut dropped = *channels;
+    for channel in dropped.iter_mut() {
+        *channel = dropped_channel(*channel);
+    }
+    dropped
 }
 
 fn kept_channel(channel: Channel) -> Channel
     ensures { result ≡ kept_channel channel }
 {
-    match channel.service {
-        None => channel,
-        Some(service) => Channel {
-            service: Some(service.after_kept()),
-        },
+    Channel {
+        service: channel.service.map(|service| service.after_kept()),
     }
 }
 
@@ -73,31 +60,17 @@ fn lasting_channel(setting: Setting, channel: Channel) -> Channel
 fn lasting_channels(settings: &[Setting; 8], channels: &[Channel; 8]) -> [Channel; 8]
     ensures { result ≡ all_lasting settings.now channels.now }
 {
-    [
-        lasting_channel(settings[0], channels[0]),
-        lasting_channel(settings[1], channels[1]),
-        lasting_channel(settings[2], channels[2]),
-        lasting_channel(settings[3], channels[3]),
-        lasting_channel(settings[4], channels[4]),
-        lasting_channel(settings[5], channels[5]),
-        lasting_channel(settings[6], channels[6]),
-        lasting_channel(settings[7], channels[7]),
-    ]
-}
-
-fn is_out(service: Option<Service>) -> bool
-    ensures { result ≡ not (in_service (option_map (λ s. s.window) service)) }
-{
-    match service {
-        None => true,
-        Some(_) => false,
+    let mut lasting = *channels;
+    for i in 0..8 {
+        lasting[i] = lasting_channel(settings[i], lasting[i]);
     }
+    lasting
 }
 
 fn asks(index: u8, setting: Setting, so_far: &Enabling) -> bool
     ensures { result ≡ asks window_in begun_channel out_of_service index setting (enabled_as so_far.now) }
 {
-    setting.enable && is_out(service_at(&so_far.channels, index))
+    setting.enable && service_at(&so_far.channels, index).is_none()
 }
 
 fn disabled_at(settings: [Setting; 8], index: u8, setting: Setting) -> [Setting; 8]

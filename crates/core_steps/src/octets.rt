@@ -52,23 +52,15 @@ pub fn accesses_for(
     ensures { accesses_in direction result ≡ accesses_for entities.now direction wanted }
 {
     match wanted {
-        None => OctetAccesses::Nothing,
-        Some(wanted) => if wants(wanted, direction) {
-            accesses_in(entities, direction, wanted.place)
-        } else {
-            OctetAccesses::Nothing
-        },
+        Some(wanted) if wants(wanted, direction) => accesses_in(entities, direction, wanted.place),
+        _ => OctetAccesses::Nothing,
     }
 }
 
 fn first_mapped(list: &[Access]) -> Option<u32>
     ensures { result ≡ first_address (map (through_mapping Writing) list.now) }
 {
-    if list.len() == 0 {
-        None
-    } else {
-        Some(list[0].address)
-    }
+    list.first().map(|access| access.address)
 }
 
 fn first_write(writes: &OctetAccesses) -> Option<u32>
@@ -146,12 +138,5 @@ pub fn give(
 pub fn mine(number: u16, handed: u16, running: Option<Running>) -> Option<Running>
     ensures { result ≡ mine number handed running }
 {
-    match running {
-        None => None,
-        Some(running) => if number == handed {
-            Some(running)
-        } else {
-            None
-        },
-    }
+    running.filter(|_| number == handed)
 }

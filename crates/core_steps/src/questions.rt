@@ -16,29 +16,20 @@ use rules::fault::{Fault, Reason};
 fn is_write(direction: Direction) -> bool
     ensures { result ≡ is_write direction }
 {
-    match direction {
-        Direction::Read => false,
-        Direction::Write => true,
-    }
+    matches!(direction, Direction::Write)
 }
 
 fn splits(share: Share) -> bool
     ensures { result ≡ splits share }
 {
-    match share {
-        Share::Whole => false,
-        Share::Part { bits: _, turn: _ } => true,
-    }
+    matches!(share, Share::Part { .. })
 }
 
 // What is known of a channel, if it is in service.
 fn facts_at(channels: &[Channel; 8], index: u8) -> Option<Facts>
     ensures { result ≡ slice_index_or (known channels.now) index None }
 {
-    match service_at(channels, index) {
-        None => None,
-        Some(service) => Some(service.facts()),
-    }
+    service_at(channels, index).map(|service| service.facts())
 }
 
 // The channel in whose area an address lies.

@@ -46,14 +46,7 @@ pub fn register_at(address: u32) -> Register
 pub(crate) fn is_listed(register: Register) -> bool
     ensures { result ≡ listed register }
 {
-    match register {
-        Register::Unlisted => false,
-        Register::Fixed { octet: _ } => true,
-        Register::Address { octet: _ } => true,
-        Register::Alias { octet: _ } => true,
-        Register::OfEntity { index: _, octet: _ } => true,
-        Register::OfChannel { index: _, octet: _ } => true,
-    }
+    !matches!(register, Register::Unlisted)
 }
 
 // The fixed octets nobody writes, the alias the local side, the rest the master.
@@ -97,20 +90,18 @@ pub fn no_registers() -> Registers
 fn entity_at(entities: &[Entity; 8], index: u8) -> Entity
     ensures { result ≡ slice_index_or entities.now index no_entity }
 {
-    if index < 8 {
-        entities[index as usize]
-    } else {
-        Entity::new()
+    match entities.get(index as usize) {
+        Some(entity) => *entity,
+        None => Entity::new(),
     }
 }
 
 fn setting_at(settings: &[Setting; 8], index: u8) -> Setting
     ensures { result ≡ slice_index_or settings.now index no_setting }
 {
-    if index < 8 {
-        settings[index as usize]
-    } else {
-        no_setting()
+    match settings.get(index as usize) {
+        Some(setting) => *setting,
+        None => no_setting(),
     }
 }
 
@@ -118,10 +109,9 @@ fn setting_at(settings: &[Setting; 8], index: u8) -> Setting
 pub fn service_at(channels: &[Channel; 8], index: u8) -> Option<Service>
     ensures { result ≡ service_at channels.now index }
 {
-    if index < 8 {
-        channels[index as usize].service
-    } else {
-        None
+    match channels.get(index as usize) {
+        Some(channel) => channel.service,
+        None => None,
     }
 }
 
