@@ -1,2 +1,1 @@
-mod Overlaps
 mod Octets

@@ -1,4 +1,3 @@
 pub mod Known
-pub mod Waits
 pub mod Judging
 pub mod Lasting

@@ -8,11 +8,6 @@ use Rattle.mapping.specs.declared.entity.Entity.{Entity}
 use Rattle.mapping.specs.declared.serving.BitRange.{BitRange}
 use Rattle.mapping.specs.Mapping.{bits_covered, server}
 
-pub eight : {X Y : Type 0} (f : X → Y) (d : X) (xs : List X) (a b c e g h i j : Y) → length xs ≡ 8 → a ≡ f (get_or xs 0 d) → b ≡ f (get_or xs 1 d) → c ≡ f (get_or xs 2 d) → e ≡ f (get_or xs 3 d) → g ≡ f (get_or xs 4 d) → h ≡ f (get_or xs 5 d) → i ≡ f (get_or xs 6 d) → j ≡ f (get_or xs 7 d) → a ∷ b ∷ c ∷ e ∷ g ∷ h ∷ i ∷ j ∷ [] ≡ map f xs
-eight f d xs a b c e g h i j long a-is b-is c-is e-is g-is h-is i-is j-is =
-    same_lists (a ∷ b ∷ c ∷ e ∷ g ∷ h ∷ i ∷ j ∷ []) (map f xs) (sym (length-map xs f ∙ long))
-    (λ k z l. each-of-8 (λ k. get_or (a ∷ b ∷ c ∷ e ∷ g ∷ h ∷ i ∷ j ∷ []) k z ≡ get_or (map f xs) k z) (a-is ∙ sym (get_or-map f xs 0 d z (omega arith))) (b-is ∙ sym (get_or-map f xs 1 d z (omega arith))) (c-is ∙ sym (get_or-map f xs 2 d z (omega arith))) (e-is ∙ sym (get_or-map f xs 3 d z (omega arith))) (g-is ∙ sym (get_or-map f xs 4 d z (omega arith))) (h-is ∙ sym (get_or-map f xs 5 d z (omega arith))) (i-is ∙ sym (get_or-map f xs 6 d z (omega arith))) (j-is ∙ sym (get_or-map f xs 7 d z (omega arith))) k l)
-
 -- the logical bits that an entity covers in a direction
 abbrev pub first_covered : Direction → Entity → ℕ
 first_covered d e = (bits_covered d e).first

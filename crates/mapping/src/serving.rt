@@ -77,16 +77,11 @@ impl Entity {
 fn ranges(entities: &[Entity; 8], direction: Direction) -> [BitRange; 8]
     ensures { result ≡ map (bits_covered direction) entities.now }
 {
-    [
-        entities[0].bits_covered(direction),
-        entities[1].bits_covered(direction),
-        entities[2].bits_covered(direction),
-        entities[3].bits_covered(direction),
-        entities[4].bits_covered(direction),
-        entities[5].bits_covered(direction),
-        entities[6].bits_covered(direction),
-        entities[7].bits_covered(direction),
-    ]
+    let mut ranges = [BitRange { first: 1, last: 0 }; 8];
+    for i in 0..8 {
+        ranges[i] = entities[i].bits_covered(direction);
+    }
+    ranges
 }
 
 // The entity that serves a logical bit: the lowest active one of the direction that covers it.

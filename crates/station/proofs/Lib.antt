@@ -1,5 +1,2 @@
-pub mod Refused
-pub mod Loops
-pub mod Given
 pub mod Running
 pub mod Frames

@@ -1,9 +1,17 @@
-use Rattle.std.proofs.Common.{arith}
-use Rattle.mapping.specs.Registers.{no_entity}
+use Rattle.std.proofs.Common.{get_or, arith}
+use Rattle.access.proofs.Each.{done-none, done-more, done-all, all-of}
 use Rattle.mapping.specs.Mapping.{bits_covered}
-use Rattle.mapping.proofs.Ranges.{eight}
+use Rattle.mapping.specs.Registers.{no_entity}
 use Rattle.mapping.proofs.serving.ranges.Goals as goal
+
+pub loop-i-init : goal.loop-i-init
+loop-i-init c = done-none _ _ _
+
+pub loop-i-preserved : goal.loop-i-preserved
+loop-i-preserved c =
+    done-more (λ k r. bits_covered c.args.direction (get_or c.args.entities.now k no_entity)) (record { first = 1; last = 0 }) _ c.loop-i.ranges c.loop-i.i _ (omega arith) c.bits_covered.ensures c.loop-i.invariant
 
 pub returns : goal.returns
 returns c =
-    eight (bits_covered c.args.direction) no_entity c.args.entities.now c.bits_covered.result c.bits_covered-2.result c.bits_covered-3.result c.bits_covered-4.result c.bits_covered-5.result c.bits_covered-6.result c.bits_covered-7.result c.bits_covered-8.result (omega arith) c.bits_covered.ensures c.bits_covered-2.ensures c.bits_covered-3.ensures c.bits_covered-4.ensures c.bits_covered-5.ensures c.bits_covered-6.ensures c.bits_covered-7.ensures c.bits_covered-8.ensures
+    all-of (bits_covered c.args.direction) no_entity (record { first = 1; last = 0 }) c.args.entities.now c.loop-i.ranges (omega (arith, c.loop-i.invariant.long))
+    (λ k h. c.loop-i.invariant.done k (omega arith))
