@@ -6,7 +6,8 @@ use Rattle.channel.specs.declared.service.Service.{Service}
 use Rattle.channel.specs.declared.record.Channel.{Channel}
 use Rattle.channel.specs.Services.{facts_of}
 use Rattle.channel.specs.Areas.{low, high, low_in, high_in}
-use Rattle.cover.specs.Lowest.{lowest-from}
+use Rattle.std.specs.List.{position_from}
+use Rattle.cover.specs.Lowest.{covers}
 use Rattle.rules.specs.Questions.{low_of, high_of}
 use Rattle.rules.specs.Steps.{known, out_of_service, service_at}
 
@@ -17,6 +18,6 @@ covers-same : (a : ℕ) (o : Option Service) → (leb (low_of (option_map facts_
 covers-same a None = refl
 covers-same a (Some s) = refl
 
-pub found_at : (cs : List Channel) (a n : ℕ) → lowest-from low high a n cs ≡ lowest-from low_of high_of a n (known cs)
+pub found_at : (cs : List Channel) (a n : ℕ) → position_from (covers low high a) n cs ≡ position_from (covers low_of high_of a) n (known cs)
 found_at [] a n = refl
 found_at (c ∷ cs) a n = λ k. cond (sym (covers-same a c.service) k) (Some n) (found_at cs a (n + 1) k)

@@ -1,32 +1,32 @@
 -- The law of the lowest covering entry, and the steps of its search.
 use Rattle.std.proofs.Common.{◌≡◌, ℕ, zero, suc, ◌+◌, ◌<◌, ◌≤◌, Bool, true, false, cond, ◌&&◌, leb, List, [], ◌∷◌, length, get_or, drop, Some, None, Option, sym, refl, ap, ◌∙◌, subst, arith, MatchOption}
 use Rattle.std.specs.Option.{option_map}
-use Rattle.std.specs.List.{HoldsAt, AllWithin}
+use Rattle.std.specs.List.{HoldsAt, AllWithin, position_from}
 use Rattle.std.proofs.lemmas.Bool.{and_parts, and_from, le-leb, leb-true, false≢true, cond_both}
 use Rattle.std.proofs.lemmas.List.{at_drop_more, at_drop_all}
-use Rattle.cover.specs.Lowest.{covers, lowest-from, Covers, Lowest}
+use Rattle.cover.specs.Lowest.{covers, Covers, Lowest}
 
 module _ {E : Type 0} (low high : E → ℕ) (place : ℕ) where
   pub covers-true : (e : E) → low e ≤ place → place ≤ high e → covers low high place e ≡ true
   covers-true e l h = and_from _ _ (le-leb (low e) place l) (le-leb place (high e) h)
 
   -- one entry more, which does not cover
-  pub passed : (es : List E) (i : ℕ) (e : E) → i < length es → e ≡ get_or es i e → covers low high place e ≡ false → lowest-from low high place i (drop i es) ≡ lowest-from low high place (i + 1) (drop (i + 1) es)
+  pub passed : (es : List E) (i : ℕ) (e : E) → i < length es → e ≡ get_or es i e → covers low high place e ≡ false → position_from (covers low high place) i (drop i es) ≡ position_from (covers low high place) (i + 1) (drop (i + 1) es)
   passed es i e within read passes =
-      let step : lowest-from low high place i (drop i es) ≡ cond (covers low high place (get_or es i e)) (Some i) (lowest-from low high place (i + 1) (drop (i + 1) es)) = at_drop_more (lowest-from low high place i) es i e within in
+      let step : position_from (covers low high place) i (drop i es) ≡ cond (covers low high place (get_or es i e)) (Some i) (position_from (covers low high place) (i + 1) (drop (i + 1) es)) = at_drop_more (position_from (covers low high place) i) es i e within in
       let not-here : covers low high place (get_or es i e) ≡ false = ap (covers low high place) (sym read) ∙ passes in
-      step ∙ ap (λ b. cond b (Some i) (lowest-from low high place (i + 1) (drop (i + 1) es))) not-here
+      step ∙ ap (λ b. cond b (Some i) (position_from (covers low high place) (i + 1) (drop (i + 1) es))) not-here
 
   -- the entry that covers
-  pub met : (es : List E) (i : ℕ) (e : E) → i < length es → e ≡ get_or es i e → covers low high place e ≡ true → lowest-from low high place i (drop i es) ≡ Some i
+  pub met : (es : List E) (i : ℕ) (e : E) → i < length es → e ≡ get_or es i e → covers low high place e ≡ true → position_from (covers low high place) i (drop i es) ≡ Some i
   met es i e within read stops =
-      let step : lowest-from low high place i (drop i es) ≡ cond (covers low high place (get_or es i e)) (Some i) (lowest-from low high place (i + 1) (drop (i + 1) es)) = at_drop_more (lowest-from low high place i) es i e within in
+      let step : position_from (covers low high place) i (drop i es) ≡ cond (covers low high place (get_or es i e)) (Some i) (position_from (covers low high place) (i + 1) (drop (i + 1) es)) = at_drop_more (position_from (covers low high place) i) es i e within in
       let here : covers low high place (get_or es i e) ≡ true = ap (covers low high place) (sym read) ∙ stops in
-      step ∙ ap (λ b. cond b (Some i) (lowest-from low high place (i + 1) (drop (i + 1) es))) here
+      step ∙ ap (λ b. cond b (Some i) (position_from (covers low high place) (i + 1) (drop (i + 1) es))) here
 
   -- the end of the list
-  pub none_left : (es : List E) (i : ℕ) → length es ≤ i → lowest-from low high place i (drop i es) ≡ None
-  none_left es i past = at_drop_all (lowest-from low high place i) es i past
+  pub none_left : (es : List E) (i : ℕ) → length es ≤ i → position_from (covers low high place) i (drop i es) ≡ None
+  none_left es i past = at_drop_all (position_from (covers low high place) i) es i past
 
   none_here : (e : E) → covers low high place e ≡ false → Covers low high place e → ⊥
   none_here e passes (l, h) = false≢true (sym passes ∙ covers-true e l h)
@@ -47,11 +47,11 @@ module _ {E : Type 0} (low high : E → ℕ) (place : ℕ) where
   shift n e es None passes every = every-cons e es (length es) passes every
   shift n e es (Some j) passes (k, is, within, at, every) = (suc k, omega arith, omega arith, at, every-cons e es k passes every)
 
-  law-from : (n : ℕ) (es : List E) → Shifted n es (lowest-from low high place n es)
+  law-from : (n : ℕ) (es : List E) → Shifted n es (position_from (covers low high place) n es)
   law-from n [] = λ k d _ h _. omega arith
   law-from n (e ∷ es) =
       let first_one : covers low high place e ≡ true → Shifted n (e ∷ es) (Some n) = λ stops. (0, omega arith, omega arith, (λ d. some-here e stops), (λ k d _ h _. omega arith)) in
-      cond_both (covers low high place e) (Some n) (lowest-from low high place (n + 1) es) (Shifted n (e ∷ es)) first_one (λ passes. shift n e es _ passes (law-from (n + 1) es))
+      cond_both (covers low high place e) (Some n) (position_from (covers low high place) (n + 1) es) (Shifted n (e ∷ es)) first_one (λ passes. shift n e es _ passes (law-from (n + 1) es))
 
   unshift : (es : List E) (r : Option ℕ) → Shifted 0 es r → Lowest low high place es r
   unshift es None every = every
@@ -59,8 +59,8 @@ module _ {E : Type 0} (low high : E → ℕ) (place : ℕ) where
       let e : k ≡ j = omega arith in
       subst (λ i. (i < length es) × HoldsAt (Covers low high place) es i × AllWithin (λ x. Covers low high place x → ⊥) es 0 i) e (within, at, every)
 
-  pub lowest-law : (es : List E) → Lowest low high place es (lowest-from low high place 0 es)
+  pub lowest-law : (es : List E) → Lowest low high place es (position_from (covers low high place) 0 es)
   lowest-law es = unshift es _ (law-from 0 es)
 
-  pub law-at : (es : List E) (r : Option ℕ) → r ≡ lowest-from low high place 0 es → Lowest low high place es r
+  pub law-at : (es : List E) (r : Option ℕ) → r ≡ position_from (covers low high place) 0 es → Lowest low high place es r
   law-at es r is = subst (Lowest low high place es) (sym is) (lowest-law es)

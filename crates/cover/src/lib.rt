@@ -3,7 +3,8 @@
 #![tactic(auto)]
 
 ghost use Rattle.std.specs.Prelude.{◌≡◌, ℕ};
-ghost use Rattle.cover.specs.Lowest.{covers, lowest-from, Lowest};
+ghost use Rattle.std.specs.List.{position_from};
+ghost use Rattle.cover.specs.Lowest.{covers, Lowest};
 
 // An entry covers the places from its first to its last, and none if the last stands before the first.
 pub trait Span {
@@ -19,15 +20,15 @@ pub trait Span {
 }
 
 fn reaches<E: Span>(entry: &E, place: u64) -> bool
-    ensures { result ≡ covers E.Span.low E.Span.high place entry.now }
+    ensures { result ≡ covers E.low E.high place entry.now }
 {
     entry.first() <= place && place <= entry.last()
 }
 
 // The index of the lowest entry that covers the place, if any does.
 pub fn lowest_covering<E: Span>(entries: &[E], place: u64) -> Option<usize>
-    ensures value { result ≡ lowest-from E.Span.low E.Span.high place 0 entries.now }
-    ensures lowest { Lowest E.Span.low E.Span.high place entries.now result }
+    ensures value { result ≡ position_from (covers E.low E.high place) 0 entries.now }
+    ensures lowest { Lowest E.low E.high place entries.now result }
 {
     for (i, entry) in entries.iter().enumerate() {
         if reaches(entry, place) {

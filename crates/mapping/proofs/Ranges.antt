@@ -2,7 +2,8 @@
 use Rattle.std.proofs.Common.{◌≡◌, ℕ, ◌+◌, cond, List, [], ◌∷◌, map, length, get_or, Some, sym, refl, ap, ◌∙◌, arith}
 use Rattle.std.proofs.lemmas.List.{same_lists, get_or-map, length-map}
 use Rattle.access.specs.declared.Direction.{Direction}
-use Rattle.cover.specs.Lowest.{covers, lowest-from}
+use Rattle.std.specs.List.{position_from}
+use Rattle.cover.specs.Lowest.{covers}
 use Rattle.bits.proofs.Octets.{each-of-8}
 use Rattle.mapping.specs.declared.entity.Entity.{Entity}
 use Rattle.mapping.specs.declared.serving.BitRange.{BitRange}
@@ -16,9 +17,9 @@ abbrev pub last_covered : Direction → Entity → ℕ
 last_covered d e = (bits_covered d e).last
 
 -- a search among the ranges is one among the entities
-through : (d : Direction) (b n : ℕ) (es : List Entity) → lowest-from {E = BitRange} (λ r. r.first) (λ r. r.last) b n (map (bits_covered d) es) ≡ lowest-from (first_covered d) (last_covered d) b n es
+through : (d : Direction) (b n : ℕ) (es : List Entity) → position_from (covers {E = BitRange} (λ r. r.first) (λ r. r.last) b) n (map (bits_covered d) es) ≡ position_from (covers (first_covered d) (last_covered d) b) n es
 through d b n [] = refl
 through d b n (e ∷ es) = ap (λ z. cond (covers (first_covered d) (last_covered d) b e) (Some n) z) (through d b (n + 1) es)
 
-pub server-is : (d : Direction) (b : ℕ) (es : List Entity) → server es d b ≡ lowest-from (first_covered d) (last_covered d) b 0 es
+pub server-is : (d : Direction) (b : ℕ) (es : List Entity) → server es d b ≡ position_from (covers (first_covered d) (last_covered d) b) 0 es
 server-is d b es = through d b 0 es

@@ -4,7 +4,8 @@ use lib.Bits.{bit_and, and_le_l, and_le_r}
 use Rattle.std.proofs.lemmas.List.{take_more}
 use Rattle.std.proofs.lemmas.Bool.{cases_Bool, and_right}
 use Rattle.std.proofs.lemmas.Bool.Decides.{nat_tests}
-use Rattle.cover.specs.Lowest.{covers, lowest-from}
+use Rattle.std.specs.List.{position_from}
+use Rattle.cover.specs.Lowest.{covers}
 use Rattle.bits.specs.Bits.{octet_of}
 use Rattle.bits.proofs.Octets.{is-octet, bits-lt, bit-and, bit_not, bit-full, reads}
 use Rattle.mapping.specs.Mapping.{is}
@@ -28,22 +29,22 @@ module _ {X : Type 0} (low high : X → ℕ) (b : ℕ) where
   p = covers low high b
 
   -- the search that begins with index n answers none below it
-  above : (xs : List X) (n m : ℕ) → m < n → is m (lowest-from low high b n xs) ≡ false
+  above : (xs : List X) (n m : ℕ) → m < n → is m (position_from (covers low high b) n xs) ≡ false
   above [] n m h = refl
   above (x ∷ xs) n m h =
-      ⊎_elim (λ t. ap (λ z. is m (cond z (Some n) (lowest-from low high b (n + 1) xs))) t ∙ grind (arith, nat_tests))
-      (λ f. ap (λ z. is m (cond z (Some n) (lowest-from low high b (n + 1) xs))) f ∙ above xs (n + 1) m (omega arith)) (cases_Bool (p x))
+      ⊎_elim (λ t. ap (λ z. is m (cond z (Some n) (position_from (covers low high b) (n + 1) xs))) t ∙ grind (arith, nat_tests))
+      (λ f. ap (λ z. is m (cond z (Some n) (position_from (covers low high b) (n + 1) xs))) f ∙ above xs (n + 1) m (omega arith)) (cases_Bool (p x))
 
   -- the search answers the lowest
-  pub found-lowest : (xs : List X) (n m : ℕ) → is (n + m) (lowest-from low high b n xs) ≡ lowest p xs m
+  pub found-lowest : (xs : List X) (n m : ℕ) → is (n + m) (position_from (covers low high b) n xs) ≡ lowest p xs m
   found-lowest [] n m = refl
   found-lowest (x ∷ xs) n zero =
-      ⊎_elim (λ t. (λ k. is (n + 0) (cond (t k) (Some n) (lowest-from low high b (n + 1) xs))) ∙ grind (arith, nat_tests) ∙ sym (ap (λ z. z && true) t))
-      (λ f. (λ k. is (n + 0) (cond (f k) (Some n) (lowest-from low high b (n + 1) xs))) ∙ above xs (n + 1) (n + 0) (omega arith) ∙ sym (ap (λ z. z && true) f)) (cases_Bool (p x))
+      ⊎_elim (λ t. (λ k. is (n + 0) (cond (t k) (Some n) (position_from (covers low high b) (n + 1) xs))) ∙ grind (arith, nat_tests) ∙ sym (ap (λ z. z && true) t))
+      (λ f. (λ k. is (n + 0) (cond (f k) (Some n) (position_from (covers low high b) (n + 1) xs))) ∙ above xs (n + 1) (n + 0) (omega arith) ∙ sym (ap (λ z. z && true) f)) (cases_Bool (p x))
   found-lowest (x ∷ xs) n (suc m) =
       let place : n + suc m ≡ n + 1 + m = omega arith in
-      ⊎_elim (λ t. (λ k. is (n + suc m) (cond (t k) (Some n) (lowest-from low high b (n + 1) xs))) ∙ grind (arith, nat_tests) ∙ sym (and_right (holds_at p xs m) (not (p x || some p (take m xs))) (ap (λ z. not (z || some p (take m xs))) t)))
-      (λ f. (λ k. is (place k) (cond (f k) (Some n) (lowest-from low high b (n + 1) xs))) ∙ found-lowest xs (n + 1) m ∙ sym (ap (λ z. holds_at p xs m && not (z || some p (take m xs))) f)) (cases_Bool (p x))
+      ⊎_elim (λ t. (λ k. is (n + suc m) (cond (t k) (Some n) (position_from (covers low high b) (n + 1) xs))) ∙ grind (arith, nat_tests) ∙ sym (and_right (holds_at p xs m) (not (p x || some p (take m xs))) (ap (λ z. not (z || some p (take m xs))) t)))
+      (λ f. (λ k. is (place k) (cond (f k) (Some n) (position_from (covers low high b) (n + 1) xs))) ∙ found-lowest xs (n + 1) m ∙ sym (ap (λ z. holds_at p xs m && not (z || some p (take m xs))) f)) (cases_Bool (p x))
 
 alone : (b : Bool) → not (b || false) ≡ not b
 alone true = refl

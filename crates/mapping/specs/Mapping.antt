@@ -2,7 +2,8 @@
 use Rattle.std.specs.Prelude.{ℕ, ◌+◌, ◌-◌, ◌*◌, ◌/◌, ◌%◌, ◌^◌, Bool, false, cond, ◌&&◌, List, [], ◌∷◌, ◌++◌, map, take, Some, None, Option, ◌==◌, nat_lt}
 use Rattle.access.specs.declared.Direction.{Direction}
 use Rattle.access.specs.declared.Direction.TheVariants.{Read, Write}
-use Rattle.cover.specs.Lowest.{lowest-from}
+use Rattle.std.specs.List.{position_from}
+use Rattle.cover.specs.Lowest.{covers}
 use Rattle.bits.specs.Bits.{bit_at, octet_of}
 use Rattle.bits.specs.Shares.{share_of}
 use Rattle.mapping.specs.declared.entity.Entity.{Entity}
@@ -33,7 +34,7 @@ bits_covered d e = cond (works d e) (record { first = first_bit e; last = last_b
 
 -- the entity that serves a logical bit: the lowest active one of the direction that covers it
 abbrev pub server : List Entity → Direction → ℕ → Option ℕ
-server es d b = lowest-from (λ r. r.first) (λ r. r.last) b 0 (map (bits_covered d) es)
+server es d b = position_from (covers (λ r. r.first) (λ r. r.last) b) 0 (map (bits_covered d) es)
 
 -- covered bit k lands k bits after the physical bit
 abbrev pub lands : Entity → ℕ → ℕ

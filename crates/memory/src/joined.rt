@@ -30,7 +30,7 @@ impl<F: Memory, S: Memory> Joined<F, S> {
     }
 
     fn part(&self, place: u32) -> Part
-        ensures { Lies (length (F.Memory.octets self.now.first)) (length (S.Memory.octets self.now.second)) place result }
+        ensures { Lies (length (F.octets self.now.first)) (length (S.octets self.now.second)) place result }
     {
         let first = self.first.size() as u32;
         let second = self.second.size() as u32;
@@ -47,9 +47,9 @@ impl<F: Memory, S: Memory> Joined<F, S> {
 }
 
 impl<F: Memory, S: Memory> Memory for Joined<F, S> {
-    ghost octets = { λ m. joined (F.Memory.octets m.first) (S.Memory.octets m.second) };
+    ghost octets = { λ m. joined (F.octets m.first) (S.octets m.second) };
 
-    ghost bounded = { λ m. joined-bounded (F.Memory.octets m.first) (S.Memory.octets m.second) };
+    ghost bounded = { λ m. joined-bounded (F.octets m.first) (S.octets m.second) };
 
     fn size(&self) -> usize {
         (self.first.size() + self.second.size()).min(LIMIT)

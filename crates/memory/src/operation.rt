@@ -13,7 +13,7 @@ pub enum Operation {
 
 // One operation, done or refused.
 fn perform<M: Memory>(memory: &mut M, operation: Operation)
-    ensures { M.Memory.octets memory.new ≡ performed (M.Memory.octets memory.old) operation }
+    ensures { M.octets memory.new ≡ performed (M.octets memory.old) operation }
 {
     match operation {
         Operation::Read { place } => {
@@ -32,8 +32,8 @@ pub fn read_after<M: Memory>(
     operations: &[Operation],
     place: u32,
 ) -> Result<u8, MemoryFault>
-    ensures value { result ≡ read_after (M.Memory.octets memory.old) operations.now place }
-    ensures after { M.Memory.octets memory.new ≡ performed_all (M.Memory.octets memory.old) operations.now }
+    ensures value { result ≡ read_after (M.octets memory.old) operations.now place }
+    ensures after { M.octets memory.new ≡ performed_all (M.octets memory.old) operations.now }
 {
     for operation in operations {
         perform(memory, *operation);

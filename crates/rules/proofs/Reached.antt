@@ -2,7 +2,8 @@
 use Rattle.std.proofs.Common.{◌≡◌, ℕ, zero, suc, ◌+◌, ◌-◌, ◌<◌, ◌≤◌, Bool, true, false, cond, not, ◌&&◌, ltb, leb, ◌⊎◌, List, [], ◌∷◌, length, get_or, sym, refl, ap, ◌∙◌, subst, inl, inr, ⊎_elim, arith}
 use Rattle.std.proofs.lemmas.Bool.{cases_Bool, ltb-true, ltb-false, leb-true, cond-true, cond-false, and_parts, and_from, and_left, and_right, lt-leb, cases_lt, false≢true}
 use Rattle.memory.specs.Octets.{outside}
-use Rattle.cover.specs.Lowest.{covers, lowest-from}
+use Rattle.std.specs.List.{position_from}
+use Rattle.cover.specs.Lowest.{covers}
 use Rattle.bits.specs.Shares.{splits}
 use Rattle.channel.specs.Areas.{first_of, last_of}
 use Rattle.channel.specs.Windows.{offset_in}
@@ -49,12 +50,12 @@ pub out-covers-nothing : (a : ℕ) → covered None a ≡ false
 out-covers-nothing a =
     ⊎_elim (λ h. and_left (leb 1 a) (leb a 0) (lt-leb 1 a h)) (λ h. and_right (leb 1 a) (leb a 0) (lt-leb a 0 h)) (cases_lt a 1)
 
-found_from : (fs : List (Option Facts)) (a k n : ℕ) → lowest-from low_of high_of a k fs ≡ Some n → (j : ℕ) × (n ≡ k + j) × (covered (get_or fs j None) a ≡ true)
+found_from : (fs : List (Option Facts)) (a k n : ℕ) → position_from (covers low_of high_of a) k fs ≡ Some n → (j : ℕ) × (n ≡ k + j) × (covered (get_or fs j None) a ≡ true)
 found_from [] a k n e = absurd (let z : ◌≡◌ {A = ℕ} 0 1 = cc in omega arith)
 found_from (f ∷ fs) a k n e = go (covered f a) refl e (λ d. found_from fs a (k + 1) n d)
   where
-    go : (b : Bool) → covered f a ≡ b → cond b (Some k) (lowest-from low_of high_of a (k + 1) fs) ≡ Some n →
-        (lowest-from low_of high_of a (k + 1) fs ≡ Some n → (j : ℕ) × (n ≡ k + 1 + j) × (covered (get_or fs j None) a ≡ true)) →
+    go : (b : Bool) → covered f a ≡ b → cond b (Some k) (position_from (covers low_of high_of a) (k + 1) fs) ≡ Some n →
+        (position_from (covers low_of high_of a) (k + 1) fs ≡ Some n → (j : ℕ) × (n ≡ k + 1 + j) × (covered (get_or fs j None) a ≡ true)) →
         (j : ℕ) × (n ≡ k + j) × (covered (get_or (f ∷ fs) j None) a ≡ true)
     go true is d rest = (0, (let z : k ≡ n = cc in omega arith), is)
     go false is d rest = let r = rest d in (suc r.0, (let z = r.1 in omega arith), r.2)
@@ -65,12 +66,12 @@ found-covers fs a n e =
     let is : r.0 ≡ n = (let z = r.1 in omega arith) in
     subst (λ j. covered (get_or fs j None) a ≡ true) is r.2
 
-none_from : (fs : List (Option Facts)) (a k : ℕ) → lowest-from low_of high_of a k fs ≡ None → (j : ℕ) → covered (get_or fs j None) a ≡ false
+none_from : (fs : List (Option Facts)) (a k : ℕ) → position_from (covers low_of high_of a) k fs ≡ None → (j : ℕ) → covered (get_or fs j None) a ≡ false
 none_from [] a k e j = out-covers-nothing a
 none_from (f ∷ fs) a k e j = go (covered f a) refl e j (λ d i. none_from fs a (k + 1) d i)
   where
-    go : (b : Bool) → covered f a ≡ b → cond b (Some k) (lowest-from low_of high_of a (k + 1) fs) ≡ None → (j : ℕ) →
-        (lowest-from low_of high_of a (k + 1) fs ≡ None → (i : ℕ) → covered (get_or fs i None) a ≡ false) → covered (get_or (f ∷ fs) j None) a ≡ false
+    go : (b : Bool) → covered f a ≡ b → cond b (Some k) (position_from (covers low_of high_of a) (k + 1) fs) ≡ None → (j : ℕ) →
+        (position_from (covers low_of high_of a) (k + 1) fs ≡ None → (i : ℕ) → covered (get_or fs i None) a ≡ false) → covered (get_or (f ∷ fs) j None) a ≡ false
     go true is d i rest = absurd (let z : ◌≡◌ {A = ℕ} 0 1 = cc in omega arith)
     go false is d zero rest = is
     go false is d (suc i) rest = rest d i

@@ -1,7 +1,8 @@
 -- The questions before an access, in their order: the first no decides. Assumes nothing.
 use Rattle.std.specs.Prelude.{ℕ, ◌-◌, Bool, true, false, cond, not, ◌&&◌, List, [], ◌∷◌, nat_le, nat_lt, slice_index_or}
 use Rattle.memory.specs.Octets.{outside}
-use Rattle.cover.specs.Lowest.{lowest-from}
+use Rattle.std.specs.List.{position_from}
+use Rattle.cover.specs.Lowest.{covers}
 use Rattle.bits.specs.Shares.{splits}
 use Rattle.channel.specs.Areas.{first_of, last_of}
 use Rattle.channel.specs.Windows.{offset_in}
@@ -23,7 +24,7 @@ high_of None = 0
 high_of (Some f) = last_of f.window
 
 abbrev pub channel_at : List (Option Facts) → ℕ → Option ℕ
-channel_at fs a = lowest-from low_of high_of a 0 fs
+channel_at fs a = position_from (covers low_of high_of a) 0 fs
 
 -- A REGISTER: is one listed there; for a write, may this side write it; for a channel's octets 0–4, is that channel out of service?
 abbrev pub in_service : {X : Type 0} → Option X → Bool
