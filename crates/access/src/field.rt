@@ -39,8 +39,6 @@ pub fn with_octet32(field: u32, index: u8, octet: u8) -> u32
 }
 
 // What is written to an octet of a field is read back from it, and every other octet stays: for fields of any width.
-pub fn fields_read_back() -> u8
+pub fn fields_read_back()
     ensures { FieldsReadBack }
-{
-    0
-}
+{}

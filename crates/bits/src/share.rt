@@ -57,8 +57,6 @@ fn part_stored(bits: u8, turn: u8, old: u8, octet: u8) -> u8
 }
 
 // Bits stored and fetched again come back, and no other bit moves.
-pub fn bits_come_back() -> u8
+pub fn bits_come_back()
     ensures { AllBitsComeBack }
-{
-    0
-}
+{}

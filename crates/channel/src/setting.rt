@@ -164,8 +164,6 @@ impl Window {
 }
 
 // A written register octet reads back as the bits that are kept of it, octet 5 as the status, and every other one as before.
-pub fn settings_read_back() -> u8
+pub fn settings_read_back()
     ensures { SettingsReadBack }
-{
-    0
-}
+{}

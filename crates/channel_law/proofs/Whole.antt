@@ -1,5 +1,5 @@
 -- The law, by induction over the calls. Assumes nothing.
-use Rattle.std.proofs.Common.{◌≡◌, ℕ, suc, ◌+◌, ◌*◌, ◌<◌, ◌≤◌, Bool, true, false, cond, not, ◌&&◌, ◌||◌, eqb, leb, ◌⊎◌, List, [], ◌∷◌, length, get_or, set, Ok, Err, Result, sym, refl, ap, ◌∙◌, subst, inl, inr, arith}
+use Rattle.std.proofs.Common.{◌≡◌, ℕ, suc, ◌+◌, ◌*◌, ◌<◌, ◌≤◌, Bool, true, false, cond, not, ◌&&◌, ◌||◌, eqb, leb, ◌⊎◌, List, [], ◌∷◌, length, Some, None, get_or, set, Ok, Err, Result, sym, refl, ap, ◌∙◌, subst, inl, inr, arith}
 use Rattle.std.proofs.lemmas.Bool.{le-leb, lt-leb, eqb-false, ne_eqb, cond-false, not_from_true}
 use Rattle.access.specs.declared.Side.{Side}
 use Rattle.access.specs.declared.Direction.{Direction}
@@ -9,7 +9,7 @@ use Rattle.channel.specs.declared.setting.Kind.TheVariants.{Buffered, Mailbox}
 use Rattle.channel.specs.declared.setting.Window.{Window}
 use Rattle.channel.specs.declared.facts.Facts.{Facts}
 use Rattle.channel.specs.declared.facts.Refusal.{Refusal}
-use Rattle.channel.specs.declared.facts.Refusal.TheVariants.{AlreadyClosed}
+use Rattle.channel.specs.declared.facts.Refusal.TheVariants.{AlreadyClosed, MailboxFull}
 use Rattle.channel.specs.declared.service.Roles.{Roles}
 use Rattle.channel.specs.declared.service.Shown.{Shown}
 use Rattle.channel.specs.declared.service.Shown.TheVariants.{Nothing, Ready, Fetch}
@@ -19,7 +19,7 @@ use Rattle.channel.specs.Facts.{is_master, right_way, taken_of, opens, turn, ask
 use Rattle.channel.specs.Services.{present, facts_of, fetch_place, shown_number, kind_bits, status_of}
 use Rattle.channel_law.specs.Story.{Accesses, Story, new_story, taken_in, none, closed_writing, closed_reading, message_told, facts_told}
 use Rattle.channel_law.specs.Runs.{Call, write, read, kept, dropped, elsewhere, Answer, done, got, State, first, in_area, after_write, after_read, step, answer_to, answer, run, history, told_write, told_read, note, tell}
-use Rattle.channel_law.specs.Law.{ShowsLatest, InOrderOf, Whole, bare, InTurn, failed, full, RefusedRightly, Answered, EachAnswered, StatusOf, Status, Taken, Alone, MessagesAreWhole}
+use Rattle.channel_law.specs.Law.{ShowsLatest, InOrderOf, Whole, bare, InTurn, refusal, full, nothing_there, RefusedRightly, Answered, EachAnswered, StatusOf, Status, Taken, Alone, MessagesAreWhole}
 use Rattle.channel_law.specs.Sound.{Sound}
 use Rattle.channel_law.proofs.Places.{number-below}
 use Rattle.channel_law.proofs.Messages.{latest-some}
@@ -130,25 +130,26 @@ in-turn f side d k i =
     ∙ ap (cond (is_master side && f.closed) (Err AlreadyClosed)) (cond-false (not (leb k (taken_of f d))) _ _ (not_from_true _ (le-leb k (taken_of f d) i.not-ahead))))
 
 -- A write in its turn, where a full mailbox has no writing open; c: the running frame has closed a writing there, b: none is open.
-write-fails : (q : Kind) (t : Story) (y : Answer) (c b : Bool) (k : ℕ) → failed y ≡ false → (b ≡ false → full q t ≡ false) →
-    failed (answer_to y (cond c (Err AlreadyClosed) (cond b (opens q Write (message_told q t) k) (Ok k)))) ≡ (c || full q t)
+write-fails : (q : Kind) (t : Story) (y : Answer) (c b : Bool) (k : ℕ) → refusal y ≡ None → (b ≡ false → full q t ≡ false) →
+    refusal (answer_to y (cond c (Err AlreadyClosed) (cond b (opens q Write (message_told q t) k) (Ok k)))) ≡ cond c (Some AlreadyClosed) (cond (full q t) (Some MailboxFull) None)
 write-fails q t y true b k e o = refl
 write-fails Buffered t y false true k e o = e
 write-fails Mailbox t y false true k e o = go (message_told Mailbox t)
   where
-    go : (m : Bool) → failed (answer_to y (opens Mailbox Write m k)) ≡ m
+    go : (m : Bool) → refusal (answer_to y (opens Mailbox Write m k)) ≡ cond m (Some MailboxFull) None
     go true = refl
     go false = e
-write-fails q t y false false k e o = e ∙ sym (o refl)
+write-fails q t y false false k e o = e ∙ sym (ap (λ z. cond z (Some MailboxFull) None) (o refl))
 
 -- A read in its turn, where an open reading has a message.
-read-fails : (q : Kind) (y : Answer) (c b m : Bool) (k : ℕ) → failed y ≡ false → (b ≡ false → m ≡ true) → failed (answer_to y (cond c (Err AlreadyClosed) (cond b (opens q Read m k) (Ok k)))) ≡ (c || not m)
+read-fails : (q : Kind) (y : Answer) (c b m : Bool) (k : ℕ) → refusal y ≡ None → (b ≡ false → m ≡ true) →
+    refusal (answer_to y (cond c (Err AlreadyClosed) (cond b (opens q Read m k) (Ok k)))) ≡ cond c (Some AlreadyClosed) (cond m None (Some (nothing_there q)))
 read-fails q y true b m k e o = refl
 read-fails Buffered y false true true k e o = e
 read-fails Buffered y false true false k e o = refl
 read-fails Mailbox y false true true k e o = e
 read-fails Mailbox y false true false k e o = refl
-read-fails q y false false m k e o = e ∙ sym (ap not (o refl))
+read-fails q y false false m k e o = e ∙ sym (ap (λ z. cond z None (Some (nothing_there q))) (o refl))
 
 -- an octet taken by an open transaction is one that it has accessed
 cut : (b : Bool) (n : ℕ) → eqb (cond b 0 n) 0 ≡ false → 0 < n
@@ -191,19 +192,19 @@ module _ (m : List ℕ) (s : Service) (t : Story) (h : Held m s t) where
   words-write side k i =
       let f = facts_told t in
       let q = t.window.kind in
-      ap (λ (g : Facts). failed (answer_to done (asked g side Write k))) told
-      ∙ (ap (λ (r : Result ℕ Refusal). failed (answer_to done r)) (in-turn f side Write k i)
+      ap (λ (g : Facts). refusal (answer_to done (asked g side Write k))) told
+      ∙ (ap (λ (r : Result ℕ Refusal). refusal (answer_to done r)) (in-turn f side Write k i)
       ∙ (write-fails q t done (is_master side && t.closed) (eqb (taken_of f Write) 0) k refl open-empty
-      ∙ ap (λ (z : Side). (is_master z && t.closed) || full q t) (side-writes side t.window.stores i.right_side)))
+      ∙ ap (λ (z : Side). cond (is_master z && t.closed) (Some AlreadyClosed) (cond (full q t) (Some MailboxFull) None)) (side-writes side t.window.stores i.right_side)))
 
   pub words-read : (side : Side) (k v : ℕ) → RefusedRightly t side Read k (answer_to (got v) (asked (facts_of s) side Read k))
   words-read side k v i =
       let f = facts_told t in
       let q = t.window.kind in
-      ap (λ (g : Facts). failed (answer_to (got v) (asked g side Read k))) told
-      ∙ (ap (λ (r : Result ℕ Refusal). failed (answer_to (got v) r)) (in-turn f side Read k i)
+      ap (λ (g : Facts). refusal (answer_to (got v) (asked g side Read k))) told
+      ∙ (ap (λ (r : Result ℕ Refusal). refusal (answer_to (got v) r)) (in-turn f side Read k i)
       ∙ (read-fails q (got v) (is_master side && t.closed) (eqb (taken_of f Read) 0) (message_told q t) k refl open-message
-      ∙ ap (λ (z : Side). (is_master z && t.closed) || not (message_told q t)) (side-reads side t.window.stores i.right_side)))
+      ∙ ap (λ (z : Side). cond (is_master z && t.closed) (Some AlreadyClosed) (cond (message_told q t) None (Some (nothing_there q)))) (side-reads side t.window.stores i.right_side)))
 
 pub answered : (S : State) (t : Story) → HeldIn S t → (c : Call) → Answered t c (answer S c)
 answered S t h (write side k v) = record {

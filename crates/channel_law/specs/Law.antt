@@ -7,6 +7,8 @@ use Rattle.channel.specs.declared.setting.Kind.{Kind}
 use Rattle.channel.specs.declared.setting.Kind.TheVariants.{Buffered, Mailbox}
 use Rattle.channel.specs.declared.setting.Window.{Window}
 use Rattle.channel.specs.declared.facts.Facts.{Facts}
+use Rattle.channel.specs.declared.facts.Refusal.{Refusal}
+use Rattle.channel.specs.declared.facts.Refusal.TheVariants.{AlreadyClosed, MailboxFull, MailboxEmpty, NothingWritten}
 use Rattle.channel.specs.Facts.{right_way, taken_of, asked}
 use Rattle.channel.specs.Windows.{in_memory}
 use Rattle.channel.specs.Settings.{bit}
@@ -71,24 +73,29 @@ pub record InTurn (f : Facts) (side : Side) (d : Direction) (k : ℕ) : Type 0 w
   pub right_side : right_way f.window side d ≡ true
   pub not-ahead : k ≤ taken_of f d
 
-abbrev pub failed : Answer → Bool
-failed done = false
-failed (got v) = false
-failed (refused r) = true
+-- the refusal that an answer is
+abbrev pub refusal : Answer → Option Refusal
+refusal done = None
+refusal (got v) = None
+refusal (refused r) = Some r
 
 -- A full mailbox takes nothing; an empty one, and a buffered channel before its first completed writing, have nothing to give.
 abbrev pub full : Kind → Story → Bool
 full Buffered t = false
 full Mailbox t = message_told Mailbox t
 
--- In its turn, a write is refused exactly when the running frame has closed a writing there or the mailbox is full; a read exactly when it has
--- closed a reading there or there is no message: no writing is completed yet, or the mailbox is empty.
-abbrev pub reason : Story → Direction → Bool
-reason t Write = closed_writing t.window t || full t.window.kind t
-reason t Read = closed_reading t.window t || not (message_told t.window.kind t)
+abbrev pub nothing_there : Kind → Refusal
+nothing_there Mailbox = MailboxEmpty
+nothing_there Buffered = NothingWritten
+
+-- In its turn, a write is refused exactly when the running frame has closed a writing there (7) or the mailbox is full (9); a read exactly when it
+-- has closed a reading there (7) or there is no message: the mailbox is empty (10), or no writing is completed yet (11).
+abbrev pub reason : Story → Direction → Option Refusal
+reason t Write = cond (closed_writing t.window t) (Some AlreadyClosed) (cond (full t.window.kind t) (Some MailboxFull) None)
+reason t Read = cond (closed_reading t.window t) (Some AlreadyClosed) (cond (message_told t.window.kind t) None (Some (nothing_there t.window.kind)))
 
 abbrev pub RefusedRightly : Story → Side → Direction → ℕ → Answer → Type 0
-RefusedRightly t side d k y = InTurn (facts_told t) side d k → failed y ≡ reason t d
+RefusedRightly t side d k y = InTurn (facts_told t) side d k → refusal y ≡ reason t d
 
 abbrev pub InWords : Story → Call → Answer → Type 0
 InWords t (write side k v) y = RefusedRightly t side Write k y

@@ -6,22 +6,16 @@ ghost use Rattle.channel_law.specs.Law.{MessagesAreWhole};
 ghost use Rattle.channel_law.specs.Sound.{ServicesStaySound};
 
 // Whatever the window, the octets in the memory and the calls, messages are read whole, and refusals are as the questions say.
-pub fn messages_are_whole() -> u8
+pub fn messages_are_whole()
     ensures { MessagesAreWhole }
-{
-    0
-}
+{}
 
 // The roles of a service are always three different buffers, and an open transaction has taken at most L − 1 octets.
-pub fn services_stay_sound() -> u8
+pub fn services_stay_sound()
     ensures { ServicesStaySound }
-{
-    0
-}
+{}
 
 // An accepted window fits the memory and has no address in common with an area in service.
-pub fn enablings_fit() -> u8
+pub fn enablings_fit()
     ensures { EnablingsFit }
-{
-    0
-}
+{}

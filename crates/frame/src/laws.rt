@@ -1,31 +1,25 @@
 // The laws of whole frames: each function's contract is the theorem, for every type of fault.
 ghost use Rattle.frame.specs.Laws.{DatagramLeaves, DatagramIsFollowed, DataOctetAsks, PaddingLeaves, PassingLeaves, FrameLeaves, FrameEnds, CutFrameDoesNotEnd, FirstOctetsCount, FirstOctetsLeave, FrameIsKept, PassingIsKept, LongFrameIsDropped, CutFrameIsDropped};
 
-pub fn of_datagrams<F>() -> u8
+pub fn of_datagrams<F>()
     ensures leaves { DatagramLeaves F }
     ensures followed { DatagramIsFollowed F }
     ensures asks { DataOctetAsks F }
-{
-    0
-}
+{}
 
-pub fn of_frames<F>() -> u8
+pub fn of_frames<F>()
     ensures padding { PaddingLeaves F }
     ensures passing { PassingLeaves F }
     ensures leaves { FrameLeaves F }
     ensures ends { FrameEnds F }
     ensures cut { CutFrameDoesNotEnd F }
-{
-    0
-}
+{}
 
-pub fn of_ends<F>() -> u8
+pub fn of_ends<F>()
     ensures counted { FirstOctetsCount F }
     ensures leaves { FirstOctetsLeave F }
     ensures kept { FrameIsKept F }
     ensures passed { PassingIsKept F }
     ensures long { LongFrameIsDropped F }
     ensures cut { CutFrameIsDropped F }
-{
-    0
-}
+{}

@@ -80,8 +80,6 @@ impl Entity {
 }
 
 // What is written to a register octet is read back from it, masked to the bits that are kept, and every other octet stays.
-pub fn entities_read_back() -> u8
+pub fn entities_read_back()
     ensures { EntitiesReadBack }
-{
-    0
-}
+{}

@@ -14,9 +14,10 @@ use Rattle.rules.specs.Questions.{asked, channel_at}
 use Rattle.rules.specs.Octets.{plain, accesses_for, accesses_of, begun_running, given_running, mine}
 use Rattle.rules.specs.Steps.{Station, Reply, over, with_running, with_channels, with_local, Reads, Writes, reads_from, writes_from, reads, writes, octet_answer, octet_taken, octet_given, octet_step, no_such_frame, kept_channels, kept_station, end_of, end_step, begin_step, read_step, write_step, step}
 use Rattle.rules.specs.Account.{Account, told, told_at, reads_told, writes_told, frame_accesses, accesses, after_reads, after_accesses, read_outcome, write_outcome, given, kept_stories, kept_account, waiting_of, refused_octet, note}
-use Rattle.rules.specs.Promise.{All, asked_all, bare, bare_answer, failed, due, due_octet, due_end, due_verdict, due_local, RefusedAt, RefusedRightly, Answered}
+use Rattle.rules.specs.Promise.{All, asked_all, bare, bare_answer, refusal, due, due_octet, due_end, due_verdict, due_local, RefusedAt, RefusedRightly, Answered}
 use Rattle.rules.proofs.Held.{Channels, Held}
-use Rattle.rules.proofs.Words.{errs, words-one}
+use Rattle.rules.specs.Faults.{Notice, notice}
+use Rattle.rules.proofs.Words.{noticed, words-one}
 use Rattle.rules.proofs.Accesses.{Rest, rest-same, ReadView, read-refused, read_done, WriteView, write-refused, write_done, read_view, write_view}
 use Rattle.rules.proofs.Octets.{shape, ReadsDone, WritesDone, reads-done, writes-done}
 use Rattle.rules.proofs.Ends.{all-kept, all-dropped, past-whole, Alike, kept-alike}
@@ -55,8 +56,8 @@ module _ (N : ℕ) (small : N ≤ 61440) (s : Station) (ts : List (Option Story)
       }
 
   -- LOCAL calls
-  words_of : (x : Access) (b : Bool) → errs (asked N (told ts) x) ≡ b → RefusedRightly ts b (x ∷ [])
-  words_of x b e = (subst (λ c. RefusedAt ts x c (channel_at (told ts) x.address)) e (words-one N s.octets s.core.channels ts size small h x), tt)
+  words_of : (x : Access) (r : Option Notice) → noticed (asked N (told ts) x) ≡ r → RefusedRightly ts r (x ∷ [])
+  words_of x r e = (subst (λ c. RefusedAt ts x c (channel_at (told ts) x.address)) e (words-one N s.octets s.core.channels ts size small h x), tt)
 
   read_goes : (p : ℕ) → Goes N number a (ReadAt p) (step s (ReadAt p))
   read_goes p = go (read_view N s ts size h (plain Local Read p) refl)
@@ -64,7 +65,7 @@ module _ (N : ℕ) (small : N ≤ 61440) (s : Station) (ts : List (Option Story)
       go : ReadView N s ts (plain Local Read p) → Goes N number a (ReadAt p) (step s (ReadAt p))
       go (read-refused f e is) =
           subst (λ (q : Reply ℕ). Goes N number a (ReadAt p) (read_step q.after q.says)) (sym is)
-          (record { held = stays; answered = record { as-asked = sym (ap (due_local (Got 0)) e); reads = words_of (plain Local Read p) true (ap errs e); writes = tt } })
+          (record { held = stays; answered = record { as-asked = sym (ap (due_local (Got 0)) e); reads = words_of (plain Local Read p) (Some (notice f)) (ap noticed e); writes = tt } })
       go (read_done g v c e is rest ch) =
           subst (λ (q : Reply ℕ). Goes N number a (ReadAt p) (read_step q.after q.says)) (sym is)
           (record {
@@ -78,7 +79,7 @@ module _ (N : ℕ) (small : N ≤ 61440) (s : Station) (ts : List (Option Story)
               channels = subst (Channels s.octets c.channels) (ap (told_at (λ k. fetched_at k v) ts) (sym e)) ch;
               past = whole;
             };
-            answered = record { as-asked = sym (ap (due_local (Got 0)) e); reads = words_of (plain Local Read p) false (ap errs e); writes = tt };
+            answered = record { as-asked = sym (ap (due_local (Got 0)) e); reads = words_of (plain Local Read p) None (ap noticed e); writes = tt };
           })
 
   write_goes : (p o : ℕ) → Goes N number a (WriteAt p o) (step s (WriteAt p o))
@@ -87,7 +88,7 @@ module _ (N : ℕ) (small : N ≤ 61440) (s : Station) (ts : List (Option Story)
       go : WriteView N s ts (plain Local Write p) o → Goes N number a (WriteAt p o) (step s (WriteAt p o))
       go (write-refused f e is) =
           subst (λ (q : Reply (Unit {0})). Goes N number a (WriteAt p o) (write_step q.after p o q.says)) (sym is)
-          (record { held = stays; answered = record { as-asked = sym (ap (due_local Stored) e); reads = tt; writes = words_of (plain Local Write p) true (ap errs e) } })
+          (record { held = stays; answered = record { as-asked = sym (ap (due_local Stored) e); reads = tt; writes = words_of (plain Local Write p) (Some (notice f)) (ap noticed e) } })
       go (write_done g t e is rest len ch) =
           subst (λ (q : Reply (Unit {0})). Goes N number a (WriteAt p o) (write_step q.after p o q.says)) (sym is)
           (record {
@@ -101,7 +102,7 @@ module _ (N : ℕ) (small : N ≤ 61440) (s : Station) (ts : List (Option Story)
               channels = subst (Channels t.octets t.core.channels) (ap (told_at (λ k. stored_at k o) ts) (sym e)) ch;
               past = whole;
             };
-            answered = record { as-asked = sym (ap (due_local Stored) e); reads = tt; writes = words_of (plain Local Write p) false (ap errs e) };
+            answered = record { as-asked = sym (ap (due_local Stored) e); reads = tt; writes = words_of (plain Local Write p) None (ap noticed e) };
           })
 
   -- A FRAME that is handed in: the running one, if it carries the station's number
@@ -130,8 +131,8 @@ module _ (N : ℕ) (small : N ≤ 61440) (s : Station) (ts : List (Option Story)
         };
         answered = record {
           as-asked = sym (ap (due_octet o _ _) e);
-          reads = subst (RefusedRightly ts true) (sym (none Read)) tt;
-          writes = subst (RefusedRightly ts true) (sym (none Write)) tt;
+          reads = subst (RefusedRightly ts _) (sym (none Read)) tt;
+          writes = subst (RefusedRightly ts _) (sym (none Write)) tt;
         };
       }
 
@@ -180,8 +181,8 @@ module _ (N : ℕ) (small : N ≤ 61440) (s : Station) (ts : List (Option Story)
           };
           answered = record {
             as-asked = sym (due-answer o _ _ (mine number n s.core.running) f e (Err TooLong) (too_long 0));
-            reads = subst (RefusedRightly ts true) (sym (none Read)) tt;
-            writes = subst (RefusedRightly ts true) (sym (none Write)) tt;
+            reads = subst (RefusedRightly ts _) (sym (none Read)) tt;
+            writes = subst (RefusedRightly ts _) (sym (none Write)) tt;
           };
         })))
 
@@ -222,8 +223,8 @@ module _ (N : ℕ) (small : N ≤ 61440) (s : Station) (ts : List (Option Story)
           };
           answered = record {
             as-asked = sym (due-answer o dr dw (mine number n s.core.running) f e _ (ok 0) ∙ (ap (λ q. Forwards 0 q dw) reading ∙ ap (Forwards 0 (bare r)) writing));
-            reads = subst (RefusedRightly ts (failed r)) (sym (made Read)) rd.words;
-            writes = subst (λ vs. RefusedRightly vs (failed w) (accesses number a (Octet n o) Write)) reads-told (subst (RefusedRightly us (failed w)) (sym (made Write)) wd.words);
+            reads = subst (RefusedRightly ts (refusal r)) (sym (made Read)) rd.words;
+            writes = subst (λ vs. RefusedRightly vs (refusal w) (accesses number a (Octet n o) Write)) reads-told (subst (RefusedRightly us (refusal w)) (sym (made Write)) wd.words);
           };
         })
 

@@ -13,10 +13,11 @@ use Rattle.rules.specs.Questions.{channel_at, asked}
 use Rattle.rules.specs.Octets.{plain, through_mapping, accesses_at, wants, accesses_for, accesses_of}
 use Rattle.rules.specs.Steps.{Station, Reply, over, Reads, Writes, also_done, also_refused, read_one, read_all, write_one, write_all, reads_from, writes_from, reads, writes}
 use Rattle.rules.specs.Account.{told, told_at, told_all, reads_told, writes_told}
-use Rattle.rules.specs.Promise.{All, also_asked, asked_all, bare, failed, RefusedIn, RefusedAt, RefusedRightly}
+use Rattle.rules.specs.Promise.{All, also_asked, asked_all, bare, refusal, RefusedIn, RefusedAt, RefusedRightly}
 use Rattle.rules.proofs.Reached.{window-reached}
 use Rattle.rules.proofs.Held.{story_at, Channels}
-use Rattle.rules.proofs.Words.{errs, words-one}
+use Rattle.rules.specs.Faults.{Notice, notice}
+use Rattle.rules.proofs.Words.{noticed, words-one}
 use Rattle.rules.proofs.Accesses.{Rest, rest-same, ReadView, read-refused, read_done, WriteView, write-refused, write_done, read_view, write_view}
 
 -- all of one direction
@@ -84,17 +85,17 @@ parts-written N ts xs h o NotWanted = refl
 parts-written N ts xs h o (Done v) = parts-quiet N (λ k. stored_at k o) ts xs h
 parts-written N ts xs h o (Refused f) = refl
 
-part-words-in : (x : Access) (b : Bool) → splits x.share ≡ true → (t : Option Story) → RefusedIn x b t
-part-words-in x b part None = tt
-part-words-in x b part (Some t) = λ whole turn. absurd (false≢true (sym whole ∙ part))
+part-words-in : (x : Access) (n : ℕ) (r : Option Notice) → splits x.share ≡ true → (t : Option Story) → RefusedIn x n r t
+part-words-in x n r part None = tt
+part-words-in x n r part (Some t) = λ whole turn. absurd (false≢true (sym whole ∙ part))
 
-part-words : (ts : List (Option Story)) (x : Access) (b : Bool) → splits x.share ≡ true → (n : Option ℕ) → RefusedAt ts x b n
-part-words ts x b part None = tt
-part-words ts x b part (Some n) = part-words-in x b part (get_or ts n None)
+part-words : (ts : List (Option Story)) (x : Access) (r : Option Notice) → splits x.share ≡ true → (n : Option ℕ) → RefusedAt ts x r n
+part-words ts x r part None = tt
+part-words ts x r part (Some n) = part-words-in x n r part (get_or ts n None)
 
-parts-words : (ts : List (Option Story)) (b : Bool) (xs : List Access) → Parts xs → RefusedRightly ts b xs
-parts-words ts b [] h = tt
-parts-words ts b (x ∷ xs) h = (part-words ts x b h.0 (channel_at (told ts) x.address), parts-words ts b xs h.1)
+parts-words : (ts : List (Option Story)) (r : Option Notice) (xs : List Access) → Parts xs → RefusedRightly ts r xs
+parts-words ts r [] h = tt
+parts-words ts r (x ∷ xs) h = (part-words ts x r h.0 (channel_at (told ts) x.address), parts-words ts r xs h.1)
 
 -- THE READS of an octet, done and told
 pub record ReadsDone (N : ℕ) (s : Station) (ts : List (Option Story)) (xs : List Access) (r : Reads) : Type 0 where
@@ -102,14 +103,14 @@ pub record ReadsDone (N : ℕ) (s : Station) (ts : List (Option Story)) (xs : Li
   pub octets : r.after.octets ≡ s.octets
   pub channels : Channels s.octets r.after.core.channels (reads_told N ts xs r.outcome)
   pub due : bare r.outcome ≡ asked_all N (told ts) 0 NotWanted xs
-  pub words : RefusedRightly ts (failed r.outcome) xs
+  pub words : RefusedRightly ts (refusal r.outcome) xs
 
 pub record WritesDone (N : ℕ) (s : Station) (ts : List (Option Story)) (o : ℕ) (xs : List Access) (w : Writes) : Type 0 where
   pub rest : Rest s.core w.after.core
   pub size : length w.after.octets ≡ length s.octets
   pub channels : Channels w.after.octets w.after.core.channels (writes_told N ts xs o w.outcome)
   pub due : w.outcome ≡ asked_all N (told ts) tt NotWanted xs
-  pub words : RefusedRightly ts (failed w.outcome) xs
+  pub words : RefusedRightly ts (refusal w.outcome) xs
 
 rest-trans : {c d e : Core} → Rest c d → Rest d e → Rest c e
 rest-trans p q = record { number = q.number ∙ p.number; registers = q.registers ∙ p.registers; alias = q.alias ∙ p.alias; running = q.running ∙ p.running }
@@ -133,8 +134,8 @@ module _ (N : ℕ) (small : N ≤ 61440) where
 
   -- one whole octet
   module _ (s : Station) (ts : List (Option Story)) (size : length s.octets ≡ N) (h : Channels s.octets s.core.channels ts) (x : Access) (whole : x.share ≡ Whole) (o : ℕ) where
-    words-as : (b : Bool) → errs (asked N (told ts) x) ≡ b → RefusedRightly ts b (x ∷ [])
-    words-as b e = (subst (λ c. RefusedAt ts x c (channel_at (told ts) x.address)) e (words-one N s.octets s.core.channels ts size small h x), tt)
+    words-as : (r : Option Notice) → noticed (asked N (told ts) x) ≡ r → RefusedRightly ts r (x ∷ [])
+    words-as r e = (subst (λ c. RefusedAt ts x c (channel_at (told ts) x.address)) e (words-one N s.octets s.core.channels ts size small h x), tt)
 
     one-read : x.direction ≡ Read → ReadsDone N s ts (x ∷ []) (reads_from s o (x ∷ []))
     one-read way = go (read_view N s ts size h x way)
@@ -142,7 +143,7 @@ module _ (N : ℕ) (small : N ≤ 61440) where
         go : ReadView N s ts x → ReadsDone N s ts (x ∷ []) (reads_from s o (x ∷ []))
         go (read-refused f e is) =
             subst (λ (q : Reply ℕ). ReadsDone N s ts (x ∷ []) (read_one x (begun-reads s o) q.after q.says)) (sym is)
-            (record { rest = rest-same s.core; octets = refl; channels = h; due = sym (ap (also_asked 0 NotWanted) e); words = words-as true (ap errs e) })
+            (record { rest = rest-same s.core; octets = refl; channels = h; due = sym (ap (also_asked 0 NotWanted) e); words = words-as (Some (notice f)) (ap noticed e) })
         go (read_done g v c e is rest ch) =
             let got : laid x.share 0 v ≡ v = ap (λ q. laid q 0 v) whole in
             subst (λ (q : Reply ℕ). ReadsDone N s ts (x ∷ []) (read_one x (begun-reads s o) q.after q.says)) (sym is)
@@ -151,7 +152,7 @@ module _ (N : ℕ) (small : N ≤ 61440) where
               octets = refl;
               channels = subst (Channels s.octets c.channels) (ap (λ w. told_at (λ k. fetched_at k w) ts (Ok g)) (sym got) ∙ ap (told_at (λ k. fetched_at k (laid x.share 0 v)) ts) (sym e)) ch;
               due = sym (ap (also_asked 0 NotWanted) e);
-              words = words-as false (ap errs e);
+              words = words-as None (ap noticed e);
             })
 
     one-write : x.direction ≡ Write → WritesDone N s ts o (x ∷ []) (writes_from s o (x ∷ []))
@@ -160,7 +161,7 @@ module _ (N : ℕ) (small : N ≤ 61440) where
         go : WriteView N s ts x o → WritesDone N s ts o (x ∷ []) (writes_from s o (x ∷ []))
         go (write-refused f e is) =
             subst (λ (q : Reply (Unit {0})). WritesDone N s ts o (x ∷ []) (write_one (begun-writes s) q.after q.says)) (sym is)
-            (record { rest = rest-same s.core; size = refl; channels = h; due = sym (ap (also_asked tt NotWanted) e); words = words-as true (ap errs e) })
+            (record { rest = rest-same s.core; size = refl; channels = h; due = sym (ap (also_asked tt NotWanted) e); words = words-as (Some (notice f)) (ap noticed e) })
         go (write_done g t e is rest len ch) =
             subst (λ (q : Reply (Unit {0})). WritesDone N s ts o (x ∷ []) (write_one (begun-writes s) q.after q.says)) (sym is)
             (record {
@@ -168,7 +169,7 @@ module _ (N : ℕ) (small : N ≤ 61440) where
               size = len;
               channels = subst (Channels t.octets t.core.channels) (ap (told_at (λ k. stored_at k o) ts) (sym e)) ch;
               due = sym (ap (also_asked tt NotWanted) e);
-              words = words-as false (ap errs e);
+              words = words-as None (ap noticed e);
             })
 
   -- parts, one after the other: the stories stay as they are
@@ -252,7 +253,7 @@ module _ (N : ℕ) (small : N ≤ 61440) where
           octets = p.octets;
           channels = subst (Channels s.octets (reads_from s o xs).after.core.channels) (sym (parts-read N ts xs parts (reads_from s o xs).outcome)) p.channels;
           due = p.due;
-          words = parts-words ts (failed (reads_from s o xs).outcome) xs parts;
+          words = parts-words ts (refusal (reads_from s o xs).outcome) xs parts;
         }
 
     pub writes-done : Sole xs ⊎ Parts xs → Ways Write xs → WritesDone N s ts o xs (writes_from s o xs)
@@ -265,5 +266,5 @@ module _ (N : ℕ) (small : N ≤ 61440) where
           size = p.size;
           channels = subst (Channels (writes_from s o xs).after.octets (writes_from s o xs).after.core.channels) (sym (parts-written N ts xs parts o (writes_from s o xs).outcome)) p.channels;
           due = p.due;
-          words = parts-words ts (failed (writes_from s o xs).outcome) xs parts;
+          words = parts-words ts (refusal (writes_from s o xs).outcome) xs parts;
         }

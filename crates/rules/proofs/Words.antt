@@ -18,27 +18,32 @@ use Rattle.rules.specs.Data.{Option, Some, None, Result, Ok, Err, Fault, Directi
 use Rattle.rules.specs.Questions.{channel_at, window_at, asked_channel, asked_area, mappable, asked}
 use Rattle.rules.specs.Steps.{service_at}
 use Rattle.rules.specs.Account.{told}
-use Rattle.rules.specs.Promise.{RefusedIn, RefusedAt}
+use Rattle.rules.specs.Faults.{Notice, notice}
+use Rattle.rules.specs.Promise.{turned_away, RefusedIn, RefusedAt}
 use Rattle.rules.proofs.Lists.{map_at}
 use Rattle.rules.proofs.Reached.{covered, found-covers}
 use Rattle.rules.proofs.Held.{HeldIf, story_at, Channels}
 
--- is the answer a refusal?
-abbrev pub errs : {X Y : Type 0} → Result X Y → Bool
-errs (Ok x) = false
-errs (Err f) = true
+-- the refusal that an answer to the questions is
+abbrev pub noticed : {X : Type 0} → Result X Fault → Option Notice
+noticed (Ok x) = None
+noticed (Err f) = Some (notice f)
 
-window-errs : (n a : ℕ) (r : Result ℕ Refusal) → errs (window_at n a r) ≡ errs r
-window-errs n a (Ok k) = refl
-window-errs n a (Err f) = refl
+abbrev err : Result ℕ Refusal → Option Refusal
+err (Ok k) = None
+err (Err r) = Some r
 
-done-errs : (r : Result ℕ Refusal) → law.failed (run.answer_to run.done r) ≡ errs r
-done-errs (Ok k) = refl
-done-errs (Err f) = refl
+window-noticed : (n a : ℕ) (r : Result ℕ Refusal) → noticed (window_at n a r) ≡ option_map (turned_away a n) (err r)
+window-noticed n a (Ok k) = refl
+window-noticed n a (Err f) = refl
 
-got-errs : (v : ℕ) (r : Result ℕ Refusal) → law.failed (run.answer_to (run.got v) r) ≡ errs r
-got-errs v (Ok k) = refl
-got-errs v (Err f) = refl
+done-err : (r : Result ℕ Refusal) → law.refusal (run.answer_to run.done r) ≡ err r
+done-err (Ok k) = refl
+done-err (Err f) = refl
+
+got-err : (v : ℕ) (r : Result ℕ Refusal) → law.refusal (run.answer_to (run.got v) r) ≡ err r
+got-err v (Ok k) = refl
+got-err v (Err f) = refl
 
 module _ (N : ℕ) (m : List ℕ) (cs : List Channel) (ts : List (Option Story)) (size : length m ≡ N) (small : N ≤ 61440) (h : Channels m cs ts) (x : Access) where
   -- an access to an area, of a whole octet, is asked the channel's questions
@@ -72,32 +77,34 @@ module _ (N : ℕ) (m : List ℕ) (cs : List Channel) (ts : List (Option Story))
         ∙ (ap (λ f. asked_channel n f x) facts_at
         ∙ cond-false (splits x.share) _ _ whole))))
 
-    words-in : (d : Direction) → x.direction ≡ d → law.InTurn (facts_told t) x.side d (offset_in t.window x.address) → errs (asked N (told ts) x) ≡ law.reason t d
+    words-in : (d : Direction) → x.direction ≡ d → law.InTurn (facts_told t) x.side d (offset_in t.window x.address) → noticed (asked N (told ts) x) ≡ option_map (turned_away x.address n) (law.reason t d)
     words-in Read is turn =
         let S : run.State = record { service = c; octets = m } in
         let k = offset_in t.window x.address in
-        ap errs area-asked ∙ (window-errs n x.address _
-        ∙ (ap (λ d. errs (channel.asked (facts_told t) x.side d k)) is
-        ∙ (ap (λ (f : Facts). errs (channel.asked f x.side Read k)) (sym (facts-agree m c t held))
-        ∙ (sym (got-errs _ (channel.asked (facts_of c) x.side Read k))
+        ap noticed area-asked ∙ (window-noticed n x.address _
+        ∙ ap (option_map (turned_away x.address n))
+        (ap (λ d. err (channel.asked (facts_told t) x.side d k)) is
+        ∙ (ap (λ (f : Facts). err (channel.asked f x.side Read k)) (sym (facts-agree m c t held))
+        ∙ (sym (got-err _ (channel.asked (facts_of c) x.side Read k))
         ∙ (answered S t held (run.read x.side k)).in_words turn))))
     words-in Write is turn =
         let S : run.State = record { service = c; octets = m } in
         let k = offset_in t.window x.address in
-        ap errs area-asked ∙ (window-errs n x.address _
-        ∙ (ap (λ d. errs (channel.asked (facts_told t) x.side d k)) is
-        ∙ (ap (λ (f : Facts). errs (channel.asked f x.side Write k)) (sym (facts-agree m c t held))
-        ∙ (sym (done-errs (channel.asked (facts_of c) x.side Write k))
+        ap noticed area-asked ∙ (window-noticed n x.address _
+        ∙ ap (option_map (turned_away x.address n))
+        (ap (λ d. err (channel.asked (facts_told t) x.side d k)) is
+        ∙ (ap (λ (f : Facts). err (channel.asked f x.side Write k)) (sym (facts-agree m c t held))
+        ∙ (sym (done-err (channel.asked (facts_of c) x.side Write k))
         ∙ (answered S t held (run.write x.side k 0)).in_words turn))))
 
-  words-if : (n : ℕ) → channel_at (told ts) x.address ≡ Some n → (o : Option Service) (t : Option Story) → story_at ts n ≡ t → HeldIf m o t → RefusedIn x (errs (asked N (told ts) x)) t
+  words-if : (n : ℕ) → channel_at (told ts) x.address ≡ Some n → (o : Option Service) (t : Option Story) → story_at ts n ≡ t → HeldIf m o t → RefusedIn x n (noticed (asked N (told ts) x)) t
   words-if n found o None at held = tt
   words-if n found None (Some t) at held = absurd held
   words-if n found (Some c) (Some t) at held = λ whole turn. words-in n c t found at held whole x.direction refl turn
 
-  pub words-one : RefusedAt ts x (errs (asked N (told ts) x)) (channel_at (told ts) x.address)
+  pub words-one : RefusedAt ts x (noticed (asked N (told ts) x)) (channel_at (told ts) x.address)
   words-one = go (channel_at (told ts) x.address) refl
     where
-      go : (o : Option ℕ) → channel_at (told ts) x.address ≡ o → RefusedAt ts x (errs (asked N (told ts) x)) o
+      go : (o : Option ℕ) → channel_at (told ts) x.address ≡ o → RefusedAt ts x (noticed (asked N (told ts) x)) o
       go None found = tt
       go (Some n) found = words-if n found (service_at cs n) (story_at ts n) refl (h.held n)

@@ -38,3 +38,12 @@ or_none (Some n) = n
 abbrev pub channel_of : Fault → ℕ
 channel_of (Memory f) = 255
 channel_of (Station r a n) = or_none n
+
+-- what a refusal tells: its number, the physical address and the channel
+pub record Notice : Type 0 where
+  pub number : ℕ
+  pub address : ℕ
+  pub channel : ℕ
+
+abbrev pub notice : Fault → Notice
+notice f = record { number = number_of f; address = address_of f; channel = channel_of f }

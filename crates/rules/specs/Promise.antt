@@ -2,13 +2,16 @@
 -- It is told in writings, readings and messages alone, by the account of the history. Assumes nothing.
 use Rattle.std.specs.Prelude.{◌≡◌, ℕ, ◌≤◌, Bool, true, false, cond, List, [], ◌∷◌, length, slice_index_or}
 use Rattle.bits.specs.Shares.{splits}
+use Rattle.std.specs.Option.{option_map}
 use Rattle.channel.specs.Windows.{offset_in}
+use Rattle.channel.specs.Facts.{refusal_number}
 use Rattle.channel_law.specs.Story.{Story, facts_told}
 use Rattle.channel_law.specs.Law.{InTurn, reason}
 use Rattle.channel_law.specs.Law as law
 use Rattle.frame.specs.Frames.{answered, kept}
 use Rattle.frame.specs.declared.progress.Reason.{Reason}
-use Rattle.rules.specs.Data.{Option, Some, None, Result, Ok, Err, Fault, Refuses, FrameRuns, OfFrame, Local, Direction, Read, Write, Facts, Access, Target, Running, Verdict, Outcome, NotWanted, Done, Refused, Call, Begin, Octet, End, ReadAt, WriteAt, Answer, Runs, Forwards, Kept, Dropped, Got, Stored, Refuse}
+use Rattle.rules.specs.Data.{Option, Some, None, Result, Ok, Err, Fault, Refuses, FrameRuns, OfFrame, Local, Direction, Read, Write, Facts, Refusal, Access, Target, Running, Verdict, Outcome, NotWanted, Done, Refused, Call, Begin, Octet, End, ReadAt, WriteAt, Answer, Runs, Forwards, Kept, Dropped, Got, Stored, Refuse}
+use Rattle.rules.specs.Faults.{Notice, notice}
 use Rattle.rules.specs.Questions.{channel_at, asked}
 use Rattle.rules.specs.Octets.{plain, mine}
 use Rattle.rules.specs.Steps.{station, history, no_such_frame, octet_answer, also_done, also_refused}
@@ -78,31 +81,35 @@ due N number a ts (End n v) = due_end N a.current v (mine number n a.running)
 due N number a ts (ReadAt p) = due_local (Got 0) (asked N (told a.current) (plain Local Read p))
 due N number a ts (WriteAt p o) = due_local Stored (asked N (told ts) (plain Local Write p))
 
--- IN WORDS. An access in its turn is refused: a write, exactly when the running frame has closed a writing there or the mailbox is full; a read,
--- exactly when it has closed a reading there or there is no message, since no writing is completed yet or the mailbox is empty. An access to
--- an area is in its turn if none of the questions for a split octet, the window, the side and the order, each asked by itself, would refuse it.
-abbrev pub failed : {X : Type 0} → Outcome X Fault → Bool
-failed NotWanted = false
-failed (Done v) = false
-failed (Refused f) = true
+-- IN WORDS. An access in its turn is refused: a write, exactly when the running frame has closed a writing there (7) or the mailbox is full (9); a
+-- read, exactly when it has closed a reading there (7) or there is no message, since the mailbox is empty (10) or no writing is completed yet (11).
+-- The refusal names the address of the access and the channel. An access to an area is in its turn if none of the questions for a split octet,
+-- the window, the side and the order, each asked by itself, would refuse it.
+abbrev pub refusal : {X : Type 0} → Outcome X Fault → Option Notice
+refusal NotWanted = None
+refusal (Done v) = None
+refusal (Refused f) = Some (notice f)
 
-abbrev pub RefusedIn : Access → (refused : Bool) → Option Story → Type 0
-RefusedIn x b None = Unit {0}
-RefusedIn x b (Some t) =
-    splits x.share ≡ false → InTurn (facts_told t) x.side x.direction (offset_in t.window x.address) → b ≡ reason t x.direction
+abbrev pub turned_away : (address channel : ℕ) → Refusal → Notice
+turned_away a n r = record { number = refusal_number r; address = a; channel = n }
 
-abbrev pub RefusedAt : List (Option Story) → Access → (refused : Bool) → Option ℕ → Type 0
-RefusedAt ts x b None = Unit {0}
-RefusedAt ts x b (Some n) = RefusedIn x b (slice_index_or ts n None)
+abbrev pub RefusedIn : Access → (channel : ℕ) → (refused : Option Notice) → Option Story → Type 0
+RefusedIn x n r None = Unit {0}
+RefusedIn x n r (Some t) =
+    splits x.share ≡ false → InTurn (facts_told t) x.side x.direction (offset_in t.window x.address) → r ≡ option_map (turned_away x.address n) (reason t x.direction)
 
-abbrev pub RefusedRightly : List (Option Story) → (refused : Bool) → List Access → Type 0
-RefusedRightly ts b xs = All (λ x. RefusedAt ts x b (channel_at (told ts) x.address)) xs
+abbrev pub RefusedAt : List (Option Story) → Access → (refused : Option Notice) → Option ℕ → Type 0
+RefusedAt ts x r None = Unit {0}
+RefusedAt ts x r (Some n) = RefusedIn x n r (slice_index_or ts n None)
+
+abbrev pub RefusedRightly : List (Option Story) → (refused : Option Notice) → List Access → Type 0
+RefusedRightly ts r xs = All (λ x. RefusedAt ts x r (channel_at (told ts) x.address)) xs
 
 -- one call, against the account of the calls before it
 pub record Answered (N number : ℕ) (a : Account) (c : Call) (y : Answer) : Type 0 where
   pub as-asked : bare_answer y ≡ due N number a (after_reads N number a c y) c
-  pub reads : RefusedRightly a.current (failed (read_outcome y)) (accesses number a c Read)
-  pub writes : RefusedRightly (after_reads N number a c y) (failed (write_outcome y)) (accesses number a c Write)
+  pub reads : RefusedRightly a.current (refusal (read_outcome y)) (accesses number a c Read)
+  pub writes : RefusedRightly (after_reads N number a c y) (refusal (write_outcome y)) (accesses number a c Write)
 
 abbrev pub EachAnswered : (size number : ℕ) → Account → List (Call × Answer) → Type 0
 EachAnswered N number a [] = Unit {0}
