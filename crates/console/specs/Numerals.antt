@@ -1,5 +1,6 @@
 -- What the words of a script stand for, by their bytes. Assumes nothing.
-use Rattle.std.specs.Prelude.{ℕ, ◌+◌, ◌*◌, min, cond, List, [], ◌∷◌, length, Some, None, Option, ◌==◌, nat_lt}
+use Rattle.std.specs.Prelude.{ℕ, ◌+◌, ◌*◌, min, cond, List, [], ◌∷◌, length, drop, Some, None, Option, ◌==◌, nat_eq, nat_lt, codes}
+use Rattle.std.specs.List.{starts_with}
 use Rattle.std.specs.Char.{digit_value}
 
 -- the value of a digit to this base, of either case
@@ -25,3 +26,16 @@ value_from radix n (b ∷ bs) = onward (digit_of radix b) (λ d. value_from radi
 -- at least one digit, and nothing else
 abbrev pub numeral_of : (radix : ℕ) → List ℕ → Option ℕ
 numeral_of radix bs = cond (length bs == 0) None (value_from radix 0 bs)
+
+-- a number: decimal, or hexadecimal after 0x
+abbrev pub number_of : List ℕ → Option ℕ
+number_of bs = cond (starts_with nat_eq bs (codes "0x")) (numeral_of 16 (drop 2 bs)) (numeral_of 10 bs)
+
+-- a number, if it is below a limit
+abbrev pub below : (limit : ℕ) → Option ℕ → Option ℕ
+below n None = None
+below n (Some v) = cond (nat_lt v n) (Some v) None
+
+-- an octet: two hexadecimal digits
+abbrev pub octet_of : List ℕ → Option ℕ
+octet_of bs = cond (length bs == 2) (below 256 (numeral_of 16 bs)) None

@@ -13,10 +13,6 @@ pub struct Asked(pub Call);
 #[derive(Clone, Copy)]
 pub struct Answered(pub Answer);
 
-// A fault: its number, and the place or the address with the channel that it names.
-#[derive(Clone, Copy)]
-struct Named(Fault);
-
 #[derive(Clone, Copy)]
 struct Fetched(Outcome<u8, Fault>);
 
@@ -54,25 +50,11 @@ impl fmt::Display for Answered {
             Answer::Kept { enabling: None } => f.write_str("kept"),
             Answer::Kept {
                 enabling: Some(fault),
-            } => write!(f, "kept; refused {}", Named(fault)),
-            Answer::Dropped(fault) => write!(f, "dropped {}", Named(fault)),
+            } => write!(f, "kept; refused {fault}"),
+            Answer::Dropped(fault) => write!(f, "dropped {fault}"),
             Answer::Got(octet) => write!(f, "{octet:02X}"),
             Answer::Stored => f.write_str("done"),
-            Answer::Refused(fault) => write!(f, "refused {}", Named(fault)),
-        }
-    }
-}
-
-impl fmt::Display for Named {
-    fn fmt<W: fmt::Write>(&self, f: &mut fmt::Formatter<W>) -> fmt::Result {
-        let fault = self.0;
-        let number = fault.number();
-        match fault {
-            Fault::Memory(outside) => write!(f, "{number} at place {}", outside.place()),
-            Fault::Station { address, .. } => {
-                let channel = fault.channel();
-                write!(f, "{number} at 0x{address:04X} channel {channel}")
-            }
+            Answer::Refused(fault) => write!(f, "refused {fault}"),
         }
     }
 }
@@ -82,7 +64,7 @@ impl fmt::Display for Fetched {
         match self.0 {
             Outcome::NotWanted => f.write_str("none"),
             Outcome::Done(octet) => write!(f, "{octet:02X}"),
-            Outcome::Refused(fault) => write!(f, "refused {}", Named(fault)),
+            Outcome::Refused(fault) => write!(f, "refused {fault}"),
         }
     }
 }
@@ -92,7 +74,7 @@ impl fmt::Display for Written {
         match self.0 {
             Outcome::NotWanted => f.write_str("none"),
             Outcome::Done(()) => f.write_str("done"),
-            Outcome::Refused(fault) => write!(f, "refused {}", Named(fault)),
+            Outcome::Refused(fault) => write!(f, "refused {fault}"),
         }
     }
 }

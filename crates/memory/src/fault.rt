@@ -2,6 +2,9 @@
 ghost use Rattle.std.specs.Prelude.{◌≡◌};
 ghost use Rattle.memory.specs.Octets.{outside, number_of, place_of};
 
+use std::error::Error;
+use std::fmt;
+
 // The memory does not have this place.
 #[derive(Clone, Copy, PartialEq, Eq, Debug)]
 pub struct MemoryFault {
@@ -27,3 +30,12 @@ impl MemoryFault {
         self.place
     }
 }
+
+impl fmt::Display for MemoryFault {
+    fn fmt<W: fmt::Write>(&self, f: &mut fmt::Formatter<W>) -> fmt::Result {
+        let number = self.number();
+        write!(f, "{number} at place {}", self.place)
+    }
+}
+
+impl Error for MemoryFault {}

@@ -63,7 +63,7 @@ pub enum Target {
 }
 
 // The five calls. Those of a frame carry the number of the frame that is handed in.
-#[derive(Clone, Copy)]
+#[derive(Clone, Copy, PartialEq, Eq, Debug)]
 pub enum Call {
     Begin,
     Octet { frame: u16, octet: u8 },
@@ -73,7 +73,7 @@ pub enum Call {
 }
 
 // `Kept` names the lowest enabling that was refused, if any. `Refused` is a call that did nothing.
-#[derive(Clone, Copy)]
+#[derive(Clone, Copy, PartialEq, Eq, Debug)]
 pub enum Answer {
     Running,
     Forwards {

@@ -5,10 +5,12 @@ ghost use Rattle.rules.specs.declared.fault.Fault.TheVariants.{Memory as FaultMe
 
 use channel::{Denial, Refusal};
 use memory::fault::MemoryFault;
+use std::error::Error;
+use std::fmt;
 
 // Why the station refuses. `Channel`: the questions of a channel's area; `Frame`: a frame that is dropped, or an octet too many; `Enabling`: a
 // service that does not begin.
-#[derive(Clone, Copy)]
+#[derive(Clone, Copy, PartialEq, Eq, Debug)]
 pub enum Reason {
     NoRegister,
     NotWritable,
@@ -24,7 +26,7 @@ pub enum Reason {
 
 // The memory's own refusal, whole, with the place that it named; or the station's, with the physical address, which is 0 for frames and
 // enablings, and the channel, if it speaks of one.
-#[derive(Clone, Copy)]
+#[derive(Clone, Copy, PartialEq, Eq, Debug)]
 pub enum Fault {
     Memory(MemoryFault),
     Station {
@@ -91,3 +93,19 @@ impl Fault {
         }
     }
 }
+
+// The number, and the place that the memory named, or the address and the channel.
+impl fmt::Display for Fault {
+    fn fmt<W: fmt::Write>(&self, f: &mut fmt::Formatter<W>) -> fmt::Result {
+        match self {
+            Fault::Memory(fault) => write!(f, "{fault}"),
+            Fault::Station { address, .. } => {
+                let number = self.number();
+                let channel = self.channel();
+                write!(f, "{number} at 0x{address:04X} channel {channel}")
+            }
+        }
+    }
+}
+
+impl Error for Fault {}

@@ -15,6 +15,7 @@ use rules::fault::Fault;
 use std::marker::Model;
 
 // A contract sees a station as its core beside the list of its memory's octets.
+#[derive(Drop)]
 pub struct Station<M: Memory> {
     machine: Machine<M>,
 }

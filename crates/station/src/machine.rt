@@ -8,6 +8,7 @@ use memory::Memory;
 use rules::data::Core;
 
 // Address 0x1000 is place 0 of the memory.
+#[derive(Drop)]
 pub(crate) struct Machine<M: Memory> {
     pub(crate) core: Core,
     pub(crate) memory: M,

@@ -12,7 +12,7 @@ pub struct Frame {
 }
 
 // The octet that leaves, and what came of the reads and of the writes that the octet made.
-#[derive(Clone, Copy)]
+#[derive(Clone, Copy, PartialEq, Eq, Debug)]
 pub struct OctetAnswer {
     pub forwarded: u8,
     pub read: Outcome<u8, Fault>,
