@@ -1,8 +1,8 @@
 -- Fields and their octets. Assumes nothing.
-use Rattle.std.proofs.Common.{◌≡◌, ℕ, zero, suc, ◌+◌, ◌*◌, ◌/◌, ◌%◌, ◌^◌, ◌<◌, ◌≤◌, ◌≢◌, List, [], ◌∷◌, length, get_or, set, sym, refl, ap, ◌∙◌, subst, arith}
+use Rattle.std.proofs.Common.{◌≡◌, ℕ, zero, suc, ◌+◌, ◌*◌, ◌/◌, ◌%◌, ◌^◌, ◌<◌, List, [], ◌∷◌, length, get_or, set, sym, refl, ap, ◌∙◌, subst, arith}
 use native.Mathlib.Nat.{pow-succ'}
 use Rattle.std.proofs.lemmas.List.{length-set, get_or-set_same, get_or-set_other}
-use Rattle.access.specs.Fields.{octets_of, field_of, octet_at, with_octet, ReadsBack, FieldsReadBack}
+use Rattle.access.specs.Fields.{octets_of, field_of, with_octet, ReadsBack, FieldsReadBack}
 
 -- each element is an octet
 abbrev pub Octets : List ℕ → Type 0

@@ -1,5 +1,5 @@
 -- Each part of a step keeps what the events tell. Assumes nothing.
-use Rattle.std.proofs.Common.{◌≡◌, ℕ, ◌-◌, ◌<◌, ◌≤◌, Bool, true, false, cond, not, ◌&&◌, eqb, ltb, List, [], ◌∷◌, length, get_or, set, sym, refl, ap, ◌∙◌, subst, arith}
+use Rattle.std.proofs.Common.{◌≡◌, ℕ, ◌<◌, ◌≤◌, Bool, true, false, cond, not, ◌&&◌, eqb, ltb, List, [], ◌∷◌, length, get_or, set, sym, refl, ap, ◌∙◌, subst, arith}
 use Rattle.std.proofs.lemmas.List.{length_push}
 use Rattle.std.proofs.lemmas.Bool.{eqb-true, eqb-false, lt-ltb, le-ltb, and_right, false≢true}
 use Rattle.access.specs.declared.Side.{Side}
@@ -13,7 +13,7 @@ use Rattle.channel.specs.declared.setting.Kind.TheVariants.{Mailbox}
 use Rattle.channel_law.specs.Story.{Accesses, Reading, Story, taken_in, add_store, before_this, add_fetch, noted, writing_completed, writing_cancelled, reading_completed, reading_cancelled, frame_over, when}
 use Rattle.channel_law.specs.Law.{seen_by, seen}
 use Rattle.channel_law.proofs.Messages.{taken_none, goes_on}
-use Rattle.channel_law.proofs.Held.{extent, Parts, Events, Both}
+use Rattle.channel_law.proofs.Held.{Parts, Events, Both}
 use Rattle.channel_law.proofs.Steps.{extent-open, extent-closed, stored, writing-completes, fetched-if, reading-completes, with-writing, with-reading, writing-cancelled, reading-cancelled, frame-left, frame-over, frame-noted}
 
 -- a reading with an octet is the latest that opened

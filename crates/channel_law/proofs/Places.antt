@@ -1,5 +1,5 @@
 -- Places of the buffers in the memory. Assumes nothing.
-use Rattle.std.proofs.Common.{◌≡◌, ℕ, ◌+◌, ◌-◌, ◌*◌, ◌<◌, ◌≤◌, true, leb, ◌≢◌, ◌⊎◌, length, ap, ⊎_elim, mul-le-mul_right, zero-mul, arith}
+use Rattle.std.proofs.Common.{◌≡◌, ℕ, ◌+◌, ◌-◌, ◌*◌, ◌<◌, ◌≤◌, true, leb, ◌≢◌, ap, ⊎_elim, mul-le-mul_right, zero-mul, arith}
 use Rattle.std.proofs.lemmas.Bool.{and_parts, leb-true, cases_order}
 use Rattle.channel.specs.declared.setting.Kind.{Kind}
 use Rattle.channel.specs.declared.setting.Kind.TheVariants.{Buffered, Mailbox}

@@ -9,7 +9,7 @@ use Rattle.channel.specs.declared.service.Roles.{Roles}
 use Rattle.channel.specs.declared.service.Shown.{Shown}
 use Rattle.channel.specs.declared.service.Shown.TheVariants.{Nothing, Ready, Fetch}
 use Rattle.channel.specs.declared.service.Service.{Service}
-use Rattle.channel.specs.Services.{taken_by, touched_by, closed_by, closes, accessed, left, cancelled, roles_opened, writing_done_if, reading_done_if, at_once, other_side, with_store, opened_if, opened, with_fetch, frame_left}
+use Rattle.channel.specs.Services.{taken_by, touched_by, closed_by, closes, accessed, left, roles_opened, writing_done_if, reading_done_if, at_once, other_side, with_store, opened_if, opened, with_fetch, frame_left}
 use Rattle.channel_law.specs.Sound.{Apart, Sound, ServicesStaySound}
 
 more : (w : Window) (side : Side) (x : Transaction) (k : ℕ) (c : Bool) → closes w k ≡ c → taken_by x < w.length → taken_by (accessed side x k c) < w.length

@@ -1,5 +1,5 @@
 -- Each part of a step keeps what holds between a service and its story. Assumes nothing.
-use Rattle.std.proofs.Common.{◌≡◌, ℕ, ◌+◌, ◌-◌, ◌<◌, ◌≤◌, max, Bool, true, false, cond, not, eqb, leb, ◌≢◌, ◌⊎◌, List, [], ◌∷◌, ◌++◌, length, get_or, set, Some, sym, refl, ap, ◌∙◌, subst, subst₂, inl, inr, ⊎_elim, arith}
+use Rattle.std.proofs.Common.{◌≡◌, ℕ, ◌+◌, ◌-◌, ◌<◌, ◌≤◌, max, Bool, true, false, cond, not, eqb, ◌≢◌, ◌⊎◌, List, [], ◌∷◌, ◌++◌, length, get_or, set, Some, sym, refl, ap, ◌∙◌, subst, subst₂, inl, inr, ⊎_elim, arith}
 use Rattle.std.proofs.lemmas.List.{get_or-set_same, get_or-set_other, length-set, length_push, get_or_append_left, get_or_push}
 use Rattle.std.proofs.lemmas.Bool.{leb-true, leb-false, eqb-true, eqb-false, cases_eq, cases_lt, cases_Bool, true≢false, false≢true}
 use Rattle.access.specs.declared.Side.{Side}
@@ -15,7 +15,7 @@ use Rattle.channel.specs.declared.service.Shown.TheVariants.{Nothing, Ready, Fet
 use Rattle.channel.specs.declared.service.Service.{Service}
 use Rattle.channel.specs.Windows.{area_size, in_memory, place_in}
 use Rattle.channel.specs.Services.{taken_by, closed_by, closes, accessed, left, number_of, present, roles_opened, shown_opened, emptied, writing_done, reading_done, with_store, opened_if, with_fetch, store_place, frame_left}
-use Rattle.channel_law.specs.Story.{Accesses, Story, taken_in, none, add_store, before_this, add_fetch, writing_completed, writing_cancelled, reading_completed, reading_cancelled, frame_over, noted, when}
+use Rattle.channel_law.specs.Story.{Accesses, Story, taken_in, add_store, before_this, add_fetch, writing_completed, writing_cancelled, reading_completed, reading_cancelled, frame_over, noted, when}
 use Rattle.channel_law.specs.Law.{last, Shows, ShowsLatest}
 use Rattle.channel_law.specs.Sound.{Apart}
 use Rattle.channel_law.proofs.Places.{place-from, place-below, place-exists, apart}

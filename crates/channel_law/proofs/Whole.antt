@@ -1,5 +1,5 @@
 -- The law, by induction over the calls. Assumes nothing.
-use Rattle.std.proofs.Common.{◌≡◌, ℕ, suc, ◌+◌, ◌*◌, ◌<◌, ◌≤◌, Bool, true, false, cond, not, ◌&&◌, ◌||◌, eqb, leb, ◌⊎◌, List, [], ◌∷◌, length, Some, None, get_or, set, Ok, Err, Result, sym, refl, ap, ◌∙◌, subst, inl, inr, arith}
+use Rattle.std.proofs.Common.{◌≡◌, ℕ, suc, ◌+◌, ◌*◌, ◌<◌, ◌≤◌, Bool, true, false, cond, not, ◌&&◌, eqb, leb, ◌⊎◌, List, [], ◌∷◌, length, Some, None, get_or, set, Ok, Err, Result, sym, refl, ap, ◌∙◌, subst, inl, inr, arith}
 use Rattle.std.proofs.lemmas.Bool.{le-leb, lt-leb, eqb-false, ne_eqb, cond-false, not_from_true}
 use Rattle.access.specs.declared.Side.{Side}
 use Rattle.access.specs.declared.Direction.{Direction}
@@ -15,7 +15,7 @@ use Rattle.channel.specs.declared.service.Shown.{Shown}
 use Rattle.channel.specs.declared.service.Shown.TheVariants.{Nothing, Ready, Fetch}
 use Rattle.channel.specs.declared.service.Service.{Service}
 use Rattle.channel.specs.Settings.{bit}
-use Rattle.channel.specs.Facts.{is_master, right_way, taken_of, opens, turn, asked}
+use Rattle.channel.specs.Facts.{is_master, right_way, taken_of, opens, asked}
 use Rattle.channel.specs.Services.{present, facts_of, fetch_place, shown_number, kind_bits, status_of}
 use Rattle.channel_law.specs.Story.{Accesses, Story, new_story, taken_in, none, closed_writing, closed_reading, message_told, facts_told}
 use Rattle.channel_law.specs.Runs.{Call, write, read, kept, dropped, elsewhere, Answer, done, got, State, first, in_area, after_write, after_read, step, answer_to, answer, run, history, told_write, told_read, note, tell}

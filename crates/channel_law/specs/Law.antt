@@ -1,5 +1,5 @@
 -- THE LAW OF WHOLE MESSAGES of one channel, over every run of one service. Assumes nothing.
-use Rattle.std.specs.Prelude.{◌≡◌, ℕ, suc, ◌+◌, ◌-◌, ◌*◌, ◌<◌, ◌≤◌, Bool, true, false, cond, not, ◌||◌, ◌⊎◌, List, [], ◌∷◌, length, Some, None, Option, ◌==◌, nat_lt, slice_index, slice_index_or}
+use Rattle.std.specs.Prelude.{◌≡◌, ℕ, suc, ◌+◌, ◌-◌, ◌*◌, ◌<◌, ◌≤◌, Bool, true, false, cond, ◌⊎◌, List, [], ◌∷◌, length, Some, None, Option, ◌==◌, nat_lt, slice_index, slice_index_or}
 use Rattle.access.specs.declared.Side.{Side}
 use Rattle.access.specs.declared.Direction.{Direction}
 use Rattle.access.specs.declared.Direction.TheVariants.{Read, Write}

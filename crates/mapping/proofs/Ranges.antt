@@ -1,10 +1,8 @@
 -- The ranges of eight entities, and the search among them.
-use Rattle.std.proofs.Common.{◌≡◌, ℕ, ◌+◌, cond, List, [], ◌∷◌, map, length, get_or, Some, sym, refl, ap, ◌∙◌, arith}
-use Rattle.std.proofs.lemmas.List.{same_lists, get_or-map, length-map}
+use Rattle.std.proofs.Common.{◌≡◌, ℕ, ◌+◌, cond, List, [], ◌∷◌, map, Some, refl, ap}
 use Rattle.access.specs.declared.Direction.{Direction}
 use Rattle.std.specs.List.{position_from}
 use Rattle.cover.specs.Lowest.{covers}
-use Rattle.bits.proofs.Octets.{each-of-8}
 use Rattle.mapping.specs.declared.entity.Entity.{Entity}
 use Rattle.mapping.specs.declared.serving.BitRange.{BitRange}
 use Rattle.mapping.specs.Mapping.{bits_covered, server}

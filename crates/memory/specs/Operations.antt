@@ -1,5 +1,5 @@
 -- Lists of reads and writes on a memory, and what a read after them answers. Assumes nothing.
-use Rattle.std.specs.Prelude.{◌≡◌, ℕ, cond, List, [], ◌∷◌, length, Ok, Err, Result, ◌==◌, nat_lt, slice_index, slice_set}
+use Rattle.std.specs.Prelude.{ℕ, cond, List, [], ◌∷◌, length, Ok, Err, Result, ◌==◌, nat_lt, slice_index, slice_set}
 use Rattle.memory.specs.declared.fault.MemoryFault.{MemoryFault}
 use Rattle.memory.specs.declared.operation.Operation.{Operation}
 use Rattle.memory.specs.declared.operation.Operation.TheVariants.{Read, Write}

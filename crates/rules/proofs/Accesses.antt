@@ -1,9 +1,8 @@
 -- One access: what it reaches, what it answers, and that the invariant of the channels holds after it. Assumes nothing.
-use Rattle.std.proofs.Common.{◌≡◌, ℕ, suc, ◌+◌, ◌-◌, ◌<◌, ◌≤◌, Bool, true, false, cond, ◌&&◌, ltb, leb, ◌≢◌, List, [], ◌∷◌, map, length, get_or, set, sym, refl, ap, ◌∙◌, subst, ⊎_elim, arith}
+use Rattle.std.proofs.Common.{◌≡◌, ℕ, ◌+◌, ◌-◌, ◌<◌, ◌≤◌, Bool, true, false, ◌&&◌, leb, ◌≢◌, List, length, get_or, set, sym, refl, ap, ◌∙◌, subst, ⊎_elim, arith}
 use Rattle.std.specs.Option.{option_map}
 use Rattle.std.proofs.lemmas.List.{length-set, get_or-set_same, get_or-set_other, get_or_past}
 use Rattle.std.proofs.lemmas.Bool.{cases_Bool, cases_eq, cases_lt, ltb-true, leb-true, le-leb, and_parts, and_from, false≢true}
-use Rattle.memory.specs.Octets.{read_of, write_of}
 use Rattle.memory.proofs.Answers.{read-inside, write-inside}
 use Rattle.bits.specs.Shares.{stored}
 use Rattle.channel.specs.Areas.{first_of, last_of}
@@ -18,12 +17,12 @@ use Rattle.channel_law.proofs.Asked.{allowed, asked-offset}
 use Rattle.channel_law.proofs.Held as channel-held
 use Rattle.channel_law.proofs.Keeps.{facts-agree, store-held, fetch-held, write-elsewhere, store-inside, fetch-inside}
 use Rattle.channel_law.proofs.Others.{disjoint-places}
-use Rattle.rules.specs.Data.{Option, Some, None, Result, Ok, Err, Fault, Side, Master, Local, Direction, Read, Write, Window, Service, Channel, Facts, Registers, Running, Core, Access, Target, InRegister, InFree, InWindow}
+use Rattle.rules.specs.Data.{Option, Some, None, Result, Ok, Err, Fault, Side, Master, Local, Read, Write, Window, Service, Channel, Facts, Core, Access, Target, InRegister, InFree, InWindow}
 use Rattle.rules.specs.Questions.{asked}
-use Rattle.rules.specs.Steps.{Station, Reply, out_of_service, in_service_as, service_at, known, asked_of, with_service, over, with_channels, register_at, fetch_in, store_in, fetch_free, store_free, fetch_window, store_window, fetched, stored_by, reads, writes}
+use Rattle.rules.specs.Steps.{Station, out_of_service, in_service_as, service_at, known, asked_of, over, with_channels, register_at, fetch_in, store_in, fetch_free, store_free, fetch_window, store_window, fetched, stored_by, reads, writes}
 use Rattle.rules.specs.Account.{told, told_at, story_window}
-use Rattle.rules.proofs.Lists.{map_at, map-length, pairs-set-in}
-use Rattle.rules.proofs.Reached.{covered, InWindowOf, FreeOf, window-reached, free-reached}
+use Rattle.rules.proofs.Lists.{map_at, pairs-set-in}
+use Rattle.rules.proofs.Reached.{covered, window-reached, free-reached}
 use Rattle.rules.proofs.Held.{HeldIf, HeldIn, ApartIf, story_at, window_at, Channels, known-told}
 
 -- what an access leaves of the core

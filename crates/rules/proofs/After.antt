@@ -1,5 +1,5 @@
 -- A call that steps as the rules say keeps the promise. Assumes nothing.
-use Rattle.std.proofs.Common.{◌≡◌, ℕ, List, [], ◌∷◌, ◌++◌, length, sym, refl, ap, ◌∙◌, subst}
+use Rattle.std.proofs.Common.{◌≡◌, List, [], ◌∷◌, ◌++◌, length, sym, refl, ap, ◌∙◌, subst}
 use Rattle.rules.specs.Data.{Call, Answer}
 use Rattle.rules.specs.Steps.{Station, station, step, runs, history}
 use Rattle.rules.specs.Promise.{Promise}

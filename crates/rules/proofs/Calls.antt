@@ -1,24 +1,24 @@
 -- Each call keeps the invariant, and is answered as promised. Assumes nothing.
-use Rattle.std.proofs.Common.{◌≡◌, ℕ, ◌<◌, ◌≤◌, Bool, true, false, cond, eqb, List, [], ◌∷◌, ◌++◌, map, length, sym, refl, ap, ◌∙◌, subst, arith}
+use Rattle.std.proofs.Common.{◌≡◌, ℕ, ◌≤◌, Bool, true, false, cond, eqb, List, [], ◌∷◌, map, length, sym, refl, ap, ◌∙◌, subst, arith}
 use Rattle.std.specs.Option.{option_map}
 use Rattle.std.proofs.lemmas.Bool.{cond-true, cond-false}
-use Rattle.channel_law.specs.Story.{Story, kept_story, dropped_story, fetched_at, stored_at}
+use Rattle.channel_law.specs.Story.{Story, kept_story, fetched_at, stored_at}
 use Rattle.channel_law.specs.Law as law
 use Rattle.frame.specs.Cursors.{leaves_of}
-use Rattle.frame.specs.Frames.{has_room, wanted_by, answered, kept}
+use Rattle.frame.specs.Frames.{has_room, answered, kept}
 use Rattle.frame.specs.declared.progress.Reason.{Reason}
 use Rattle.frame.specs.declared.progress.Reason.TheVariants.{TooLong}
-use Rattle.rules.specs.Data.{Option, Some, None, Result, Ok, Err, Fault, Refuses, OfFrame, Local, Direction, Read, Write, Verdict, Whole, Core, Registers, Running, Access, Target, Outcome, NotWanted, Done, Refused, Call, Begin, Octet, End, ReadAt, WriteAt, Answer, Runs, Forwards, Kept, Dropped, Got, Stored, Refuse}
+use Rattle.rules.specs.Data.{Option, Some, None, Result, Ok, Err, Fault, Local, Direction, Read, Write, Verdict, Registers, Running, Access, Outcome, NotWanted, Done, Refused, Call, Begin, Octet, End, ReadAt, WriteAt, Answer, Forwards, Kept, Got, Stored}
 use Rattle.rules.specs.Registers.{register_of, with_alias, with_settings}
 use Rattle.rules.specs.Questions.{asked, channel_at}
-use Rattle.rules.specs.Octets.{plain, accesses_for, accesses_of, begun_running, given_running, mine}
-use Rattle.rules.specs.Steps.{Station, Reply, over, with_running, with_channels, with_local, Reads, Writes, reads_from, writes_from, reads, writes, octet_answer, octet_taken, octet_given, octet_step, no_such_frame, kept_channels, kept_station, end_of, end_step, begin_step, read_step, write_step, step}
-use Rattle.rules.specs.Account.{Account, told, told_at, reads_told, writes_told, frame_accesses, accesses, after_reads, after_accesses, read_outcome, write_outcome, given, kept_stories, kept_account, waiting_of, refused_octet, note}
+use Rattle.rules.specs.Octets.{plain, accesses_for, accesses_of, given_running, mine}
+use Rattle.rules.specs.Steps.{Station, Reply, over, with_running, Reads, Writes, reads_from, writes_from, octet_answer, octet_taken, octet_given, octet_step, no_such_frame, kept_channels, kept_station, end_of, end_step, begin_step, read_step, write_step, step}
+use Rattle.rules.specs.Account.{Account, told, told_at, reads_told, writes_told, frame_accesses, accesses, after_reads, after_accesses, given, kept_stories, kept_account, waiting_of, refused_octet, note}
 use Rattle.rules.specs.Promise.{All, asked_all, bare, bare_answer, refusal, due, due_octet, due_end, due_verdict, due_local, RefusedAt, RefusedRightly, Answered}
 use Rattle.rules.proofs.Held.{Channels, Held}
 use Rattle.rules.specs.Faults.{Notice, notice}
 use Rattle.rules.proofs.Words.{noticed, words-one}
-use Rattle.rules.proofs.Accesses.{Rest, rest-same, ReadView, read-refused, read_done, WriteView, write-refused, write_done, read_view, write_view}
+use Rattle.rules.proofs.Accesses.{ReadView, read-refused, read_done, WriteView, write-refused, write_done, read_view, write_view}
 use Rattle.rules.proofs.Octets.{shape, ReadsDone, WritesDone, reads-done, writes-done}
 use Rattle.rules.proofs.Ends.{all-kept, all-dropped, past-whole, Alike, kept-alike}
 

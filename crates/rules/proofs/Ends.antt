@@ -1,20 +1,20 @@
 -- The end of a frame, of all channels. Assumes nothing.
-use Rattle.std.proofs.Common.{◌≡◌, ℕ, zero, suc, ◌+◌, ◌<◌, ◌≤◌, Bool, true, false, cond, not, ◌&&◌, ◌≢◌, List, [], ◌∷◌, ◌++◌, map, length, get_or, set, sym, refl, ap, ◌∙◌, subst, ⊎_elim, arith}
+use Rattle.std.proofs.Common.{◌≡◌, ℕ, zero, suc, ◌+◌, ◌<◌, Bool, true, false, cond, not, ◌&&◌, ◌≢◌, List, [], ◌∷◌, ◌++◌, map, length, get_or, set, sym, refl, ap, ◌∙◌, subst, ⊎_elim, arith}
 use Rattle.std.specs.Option.{option_map, option_or}
 use Rattle.std.proofs.lemmas.List.{length-set, get_or-set_same, get_or-set_other, set_past}
-use Rattle.std.proofs.lemmas.Bool.{cases_Bool, cases_eq, cases_lt, and_parts}
+use Rattle.std.proofs.lemmas.Bool.{cases_eq, cases_lt}
 use Rattle.channel.specs.Areas.{judged}
-use Rattle.channel.specs.Services.{begun, after_kept, after_dropped}
-use Rattle.channel_law.specs.Story.{Story, new_story, when, frame_over, writing_completed, writing_cancelled, reading_completed, reading_cancelled, kept_in, dropped_in, kept_story, dropped_story}
+use Rattle.channel.specs.Services.{after_kept, after_dropped}
+use Rattle.channel_law.specs.Story.{Story, new_story, writing_completed, writing_cancelled, reading_completed, reading_cancelled, kept_in, dropped_in, kept_story, dropped_story}
 use Rattle.channel_law.specs.Law as law
-use Rattle.channel_law.specs.Enabling.{Disjoint, DisjointIn, DisjointAll}
+use Rattle.channel_law.specs.Enabling.{DisjointIn, DisjointAll}
 use Rattle.channel_law.proofs.Keeps.{begun-held, kept-held, dropped-held}
 use Rattle.channel_law.proofs.Others.{enablings-fit}
 use Rattle.channel_law.proofs.Whole as whole
-use Rattle.rules.specs.Data.{Option, Some, None, Result, Ok, Err, Fault, Refuses, OfEnabling, Side, Master, Local, Window, Service, Channel, Setting, Registers, Denial}
+use Rattle.rules.specs.Data.{Option, Some, None, Result, Ok, Err, Refuses, OfEnabling, Side, Master, Local, Window, Service, Channel, Setting, Registers, Denial}
 use Rattle.rules.specs.Registers.{no_setting}
 use Rattle.rules.specs.Questions.{in_service}
-use Rattle.rules.specs.Enabling.{as_channel, disabled, lasting, Enabled, decided, asks, enabled_one, enabled_from, enabled}
+use Rattle.rules.specs.Enabling.{as_channel, disabled, lasting, Enabled, decided, asks, enabled_one, enabled_from}
 use Rattle.rules.specs.Steps.{out_of_service, service_at, window_in, begun_channel, kept_channel, dropped_channel, kept_channels}
 use Rattle.rules.specs.Account.{story_window, begun_story, ended, kept_stories}
 use Rattle.rules.specs.Promise.{All}

@@ -1,7 +1,6 @@
 -- The invariant between a station and the account of its history. Assumes nothing.
-use Rattle.std.proofs.Common.{◌≡◌, ℕ, zero, suc, ◌-◌, ◌<◌, ◌≤◌, Bool, true, false, cond, ◌&&◌, ◌≢◌, List, [], ◌∷◌, map, length, get_or, set, replicate, sym, refl, ap, ◌∙◌, subst, arith}
+use Rattle.std.proofs.Common.{◌≡◌, ℕ, zero, suc, ◌≤◌, ◌≢◌, List, [], ◌∷◌, length, get_or, replicate, sym, refl, ap, ◌∙◌, subst}
 use Rattle.std.specs.Option.{option_map}
-use Rattle.std.proofs.lemmas.Bool.{cases_Bool}
 use Rattle.channel.specs.Services.{facts_of}
 use Rattle.channel_law.specs.Story.{Story, facts_told}
 use Rattle.channel_law.specs.Law as law
@@ -9,9 +8,8 @@ use Rattle.channel_law.specs.Enabling.{Disjoint}
 use Rattle.channel_law.proofs.Held as channel
 use Rattle.channel_law.proofs.Keeps.{facts-agree}
 use Rattle.channel_law.proofs.Whole as whole
-use Rattle.rules.specs.Data.{Option, Some, None, Window, Service, Channel, Facts, Registers, Running, Core}
-use Rattle.rules.specs.Questions.{asked}
-use Rattle.rules.specs.Steps.{Station, station, out_of_service, service_at, known, asked_of}
+use Rattle.rules.specs.Data.{Option, Some, None, Window, Service, Channel, Facts}
+use Rattle.rules.specs.Steps.{Station, station, out_of_service, service_at, known}
 use Rattle.rules.specs.Account.{Account, nothing, told, story_window}
 use Rattle.rules.specs.Promise.{All, WholeIfAny}
 use Rattle.rules.proofs.Lists.{map_at, map-length, lists-same}

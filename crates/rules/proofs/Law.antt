@@ -1,10 +1,10 @@
 -- The promise about messages: every run keeps it. Assumes nothing.
-use Rattle.std.proofs.Common.{◌≡◌, ℕ, ◌≤◌, List, [], ◌∷◌, length, refl}
+use Rattle.std.proofs.Common.{ℕ, List, [], ◌∷◌, length}
 use Rattle.channel_law.specs.Law as law
 use Rattle.rules.specs.Data.{Call}
 use Rattle.rules.specs.Steps.{Station, station, step, history}
 use Rattle.rules.specs.Account.{Account, nothing, note, tell}
-use Rattle.rules.specs.Promise.{All, WholeIfAny, EachAnswered, Promise, MessagesAreWhole}
+use Rattle.rules.specs.Promise.{All, WholeIfAny, EachAnswered, MessagesAreWhole}
 use Rattle.rules.proofs.Held.{Held, first, stories-whole}
 use Rattle.rules.proofs.Calls.{call-goes}
 

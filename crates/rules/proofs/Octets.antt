@@ -1,5 +1,5 @@
 -- The accesses of one octet in one direction: one of a whole octet, or all of parts. Assumes nothing.
-use Rattle.std.proofs.Common.{◌≡◌, ℕ, ◌≤◌, Bool, true, false, cond, ◌⊎◌, List, [], ◌∷◌, map, length, get_or, sym, refl, ap, ◌∙◌, subst, inl, inr, ⊎_elim, arith}
+use Rattle.std.proofs.Common.{◌≡◌, ℕ, ◌≤◌, Bool, true, false, cond, ◌⊎◌, List, [], ◌∷◌, map, length, get_or, sym, refl, ap, ◌∙◌, subst, inl, inr, ⊎_elim}
 use Rattle.std.proofs.lemmas.Bool.{false≢true}
 use Rattle.bits.specs.Shares.{splits, laid}
 use Rattle.mapping.specs.declared.mapped.Access as mapped-access
@@ -8,14 +8,14 @@ use Rattle.mapping_laws.specs.Whole as mapping
 use Rattle.mapping_laws.proofs.Alone.{sole-whole}
 use Rattle.frame.specs.Frames.{wanted_by}
 use Rattle.channel_law.specs.Story.{Story, stored_at, fetched_at}
-use Rattle.rules.specs.Data.{Option, Some, None, Result, Ok, Err, Fault, Direction, Read, Write, Whole, Entity, Core, Access, Target, InRegister, InFree, InWindow, Facts, Place, Physical, Logical, Wanted, Outcome, NotWanted, Done, Refused, Registers, Running}
+use Rattle.rules.specs.Data.{Option, Some, None, Result, Ok, Err, Fault, Direction, Read, Write, Whole, Entity, Core, Access, Target, InRegister, InFree, InWindow, Place, Physical, Logical, Wanted, Outcome, NotWanted, Done, Refused, Registers, Running}
 use Rattle.rules.specs.Questions.{channel_at, asked}
 use Rattle.rules.specs.Octets.{plain, through_mapping, accesses_at, wants, accesses_for, accesses_of}
-use Rattle.rules.specs.Steps.{Station, Reply, over, Reads, Writes, also_done, also_refused, read_one, read_all, write_one, write_all, reads_from, writes_from, reads, writes}
+use Rattle.rules.specs.Steps.{Station, Reply, over, Reads, Writes, also_done, also_refused, read_one, read_all, write_one, write_all, reads_from, writes_from}
 use Rattle.rules.specs.Account.{told, told_at, told_all, reads_told, writes_told}
 use Rattle.rules.specs.Promise.{All, also_asked, asked_all, bare, refusal, RefusedIn, RefusedAt, RefusedRightly}
 use Rattle.rules.proofs.Reached.{window-reached}
-use Rattle.rules.proofs.Held.{story_at, Channels}
+use Rattle.rules.proofs.Held.{Channels}
 use Rattle.rules.specs.Faults.{Notice, notice}
 use Rattle.rules.proofs.Words.{noticed, words-one}
 use Rattle.rules.proofs.Accesses.{Rest, rest-same, ReadView, read-refused, read_done, WriteView, write-refused, write_done, read_view, write_view}

@@ -1,16 +1,14 @@
 -- What an access reaches, by the questions. Assumes nothing.
-use Rattle.std.proofs.Common.{◌≡◌, ℕ, zero, suc, ◌+◌, ◌-◌, ◌<◌, ◌≤◌, Bool, true, false, cond, not, ◌&&◌, ltb, leb, ◌⊎◌, List, [], ◌∷◌, length, get_or, sym, refl, ap, ◌∙◌, subst, inl, inr, ⊎_elim, arith}
-use Rattle.std.proofs.lemmas.Bool.{cases_Bool, ltb-true, ltb-false, leb-true, cond-true, cond-false, and_parts, and_from, and_left, and_right, lt-leb, cases_lt, false≢true}
-use Rattle.memory.specs.Octets.{outside}
+use Rattle.std.proofs.Common.{◌≡◌, ℕ, zero, suc, ◌+◌, ◌-◌, ◌<◌, ◌≤◌, Bool, true, false, cond, not, ◌&&◌, ltb, leb, ◌⊎◌, List, [], ◌∷◌, get_or, sym, refl, ap, ◌∙◌, subst, inl, inr, ⊎_elim, arith}
+use Rattle.std.proofs.lemmas.Bool.{ltb-true, ltb-false, and_left, and_right, lt-leb, cases_lt, false≢true}
 use Rattle.std.specs.List.{position_from}
 use Rattle.cover.specs.Lowest.{covers}
 use Rattle.bits.specs.Shares.{splits}
-use Rattle.channel.specs.Areas.{first_of, last_of}
 use Rattle.channel.specs.Windows.{offset_in}
 use Rattle.channel.specs.Facts as channel
-use Rattle.rules.specs.Data.{Option, Some, None, Result, Ok, Err, Fault, NoPlace, Refuses, Refusal, Direction, Access, Target, InRegister, InFree, InWindow, Facts, Register, Unlisted, Fixed, Address, Alias, OfEntity, OfChannel, Window}
+use Rattle.rules.specs.Data.{Option, Some, None, Result, Ok, Err, Fault, Refusal, Access, Target, InRegister, InFree, InWindow, Facts, Register, Unlisted, Fixed, Address, Alias, OfEntity, OfChannel}
 use Rattle.rules.specs.Registers.{register_of, listed, may_write}
-use Rattle.rules.specs.Questions.{is_write, low_of, high_of, channel_at, in_service, setting_held, asked_register, window_at, asked_channel, asked_area, asked_memory, mappable, asked}
+use Rattle.rules.specs.Questions.{is_write, low_of, high_of, channel_at, in_service, setting_held, asked_register, window_at, asked_channel, asked_area, mappable, asked}
 
 -- a question that is answered yes
 pub yes-to : {X Y : Type 0} (b : Bool) (f : Y) (r : Result X Y) (x : X) → cond b (Err f) r ≡ Ok x → (b ≡ false) × (r ≡ Ok x)

@@ -1,10 +1,10 @@
 -- An access in its turn: when it is refused, in words. Assumes nothing.
-use Rattle.std.proofs.Common.{◌≡◌, ℕ, ◌+◌, ◌-◌, ◌<◌, ◌≤◌, Bool, true, false, cond, not, ◌&&◌, ltb, leb, List, length, get_or, sym, refl, ap, ◌∙◌, subst, arith}
+use Rattle.std.proofs.Common.{◌≡◌, ℕ, ◌+◌, ◌-◌, ◌≤◌, true, false, not, ◌&&◌, ltb, leb, List, length, get_or, sym, refl, ap, ◌∙◌, subst, arith}
 use Rattle.std.specs.Option.{option_map}
 use Rattle.std.proofs.lemmas.Bool.{ltb-true, leb-true, lt-ltb, le-ltb, le-leb, and_parts, and_from, and_right, cond-true, cond-false}
 use Rattle.bits.specs.Shares.{splits}
 use Rattle.channel.specs.Areas.{first_of, last_of}
-use Rattle.channel.specs.Windows.{offset_in, area_size, in_memory}
+use Rattle.channel.specs.Windows.{offset_in, area_size}
 use Rattle.channel.specs.Facts as channel
 use Rattle.channel.specs.Services.{facts_of}
 use Rattle.channel_law.specs.Story.{Story, facts_told}
@@ -14,7 +14,7 @@ use Rattle.channel_law.proofs.Held as channel-held
 use Rattle.channel_law.proofs.Keeps.{facts-agree}
 use Rattle.channel_law.proofs.Others.{address-inside}
 use Rattle.channel_law.proofs.Whole.{answered}
-use Rattle.rules.specs.Data.{Option, Some, None, Result, Ok, Err, Fault, Direction, Read, Write, Side, Service, Channel, Facts, Refusal, Access, Target}
+use Rattle.rules.specs.Data.{Option, Some, None, Result, Ok, Err, Fault, Direction, Read, Write, Service, Channel, Facts, Refusal, Access}
 use Rattle.rules.specs.Questions.{channel_at, window_at, asked_channel, asked_area, mappable, asked}
 use Rattle.rules.specs.Steps.{service_at}
 use Rattle.rules.specs.Account.{told}

@@ -1,10 +1,10 @@
 -- The account: what the calls and their answers tell of frames, registers, services, writings and readings. It is told from the memory's size,
 -- the station's number and the history alone, by the rules for frames, registers, mapping and enablings; no buffer, no role and no octet of
 -- the memory stands in it. Assumes nothing.
-use Rattle.std.specs.Prelude.{ℕ, Bool, true, false, cond, List, [], ◌∷◌, ◌++◌, map, set, replicate, slice_index_or, slice_set}
+use Rattle.std.specs.Prelude.{ℕ, cond, List, [], ◌∷◌, ◌++◌, map, replicate, slice_index_or, slice_set}
 use Rattle.std.specs.Option.{option_map}
 use Rattle.channel_law.specs.Story.{Story, new_story, facts_told, stored_at, fetched_at, kept_story, dropped_story}
-use Rattle.rules.specs.Data.{Option, Some, None, Result, Ok, Err, Fault, Side, Local, Direction, Read, Write, Window, Setting, Facts, Access, Target, InRegister, InFree, InWindow, Registers, Running, Outcome, NotWanted, Done, Refused, Call, Begin, Octet, End, ReadAt, WriteAt, Answer, Runs, Forwards, Kept, Dropped, Got, Stored, Refuse}
+use Rattle.rules.specs.Data.{Option, Some, None, Result, Ok, Err, Fault, Local, Direction, Read, Write, Window, Setting, Facts, Access, Target, InRegister, InFree, InWindow, Registers, Running, Outcome, NotWanted, Done, Refused, Call, Begin, Octet, End, ReadAt, WriteAt, Answer, Runs, Forwards, Kept, Dropped, Got, Stored, Refuse}
 use Rattle.rules.specs.Registers.{register_of, with_settings, with_alias, new_registers}
 use Rattle.rules.specs.Questions.{asked}
 use Rattle.rules.specs.Enabling.{Enabled, lasting, enabled}

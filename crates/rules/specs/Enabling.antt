@@ -1,5 +1,5 @@
 -- What a kept end makes of services: those that end, and those that begin. Over any record of the channels. Assumes nothing.
-use Rattle.std.specs.Prelude.{ℕ, ◌+◌, Bool, false, cond, not, ◌&&◌, List, [], ◌∷◌, map, set, slice_index_or, slice_set}
+use Rattle.std.specs.Prelude.{ℕ, ◌+◌, Bool, false, cond, not, ◌&&◌, List, [], ◌∷◌, map, slice_index_or, slice_set}
 use Rattle.std.specs.Option.{option_or}
 use Rattle.channel.specs.Areas.{judged}
 use Rattle.channel.specs.Services.{begun}

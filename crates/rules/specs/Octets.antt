@@ -3,7 +3,7 @@ use Rattle.std.specs.Prelude.{ℕ, Bool, true, false, cond, List, [], ◌∷◌,
 use Rattle.mapping.specs.declared.mapped.Access as mapped-access
 use Rattle.mapping.specs.Mapping.{mapped_accesses}
 use Rattle.frame.specs.Frames.{begun_frame, wanted_by, given}
-use Rattle.rules.specs.Data.{Option, Some, None, Fault, Side, Master, Direction, Read, Write, Whole, Entity, Access, Addresses, Place, Physical, Logical, Wanted, Outcome, NotWanted, Done, Refused, Progress, Registers, Running}
+use Rattle.rules.specs.Data.{Option, Some, None, Fault, Side, Master, Direction, Read, Write, Whole, Entity, Access, Addresses, Place, Physical, Logical, Wanted, Outcome, NotWanted, Done, Refused, Registers, Running}
 use Rattle.rules.specs.Registers.{register_of, with_register}
 
 -- one access of a whole octet

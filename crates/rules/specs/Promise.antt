@@ -1,6 +1,6 @@
 -- THE PROMISE about messages, of a station with a memory of so many octets and its number, over any history of calls and answers.
 -- It is told in writings, readings and messages alone, by the account of the history. Assumes nothing.
-use Rattle.std.specs.Prelude.{◌≡◌, ℕ, ◌≤◌, Bool, true, false, cond, List, [], ◌∷◌, length, slice_index_or}
+use Rattle.std.specs.Prelude.{◌≡◌, ℕ, ◌≤◌, false, List, [], ◌∷◌, length, slice_index_or}
 use Rattle.bits.specs.Shares.{splits}
 use Rattle.std.specs.Option.{option_map}
 use Rattle.channel.specs.Windows.{offset_in}
@@ -10,7 +10,7 @@ use Rattle.channel_law.specs.Law.{InTurn, reason}
 use Rattle.channel_law.specs.Law as law
 use Rattle.frame.specs.Frames.{answered, kept}
 use Rattle.frame.specs.declared.progress.Reason.{Reason}
-use Rattle.rules.specs.Data.{Option, Some, None, Result, Ok, Err, Fault, Refuses, FrameRuns, OfFrame, Local, Direction, Read, Write, Facts, Refusal, Access, Target, Running, Verdict, Outcome, NotWanted, Done, Refused, Call, Begin, Octet, End, ReadAt, WriteAt, Answer, Runs, Forwards, Kept, Dropped, Got, Stored, Refuse}
+use Rattle.rules.specs.Data.{Option, Some, None, Result, Ok, Err, Fault, Refuses, FrameRuns, OfFrame, Local, Read, Write, Facts, Refusal, Access, Target, Running, Verdict, Outcome, NotWanted, Done, Refused, Call, Begin, Octet, End, ReadAt, WriteAt, Answer, Runs, Forwards, Kept, Dropped, Got, Stored, Refuse}
 use Rattle.rules.specs.Faults.{Notice, notice}
 use Rattle.rules.specs.Questions.{channel_at, asked}
 use Rattle.rules.specs.Octets.{plain, mine}

@@ -1,5 +1,5 @@
 -- The questions before an access, in their order: the first no decides. Assumes nothing.
-use Rattle.std.specs.Prelude.{ℕ, ◌-◌, Bool, true, false, cond, not, ◌&&◌, List, [], ◌∷◌, nat_le, nat_lt, slice_index_or}
+use Rattle.std.specs.Prelude.{ℕ, ◌-◌, Bool, true, false, cond, not, ◌&&◌, List, nat_le, nat_lt, slice_index_or}
 use Rattle.memory.specs.Octets.{outside}
 use Rattle.std.specs.List.{position_from}
 use Rattle.cover.specs.Lowest.{covers}
@@ -7,7 +7,7 @@ use Rattle.bits.specs.Shares.{splits}
 use Rattle.channel.specs.Areas.{first_of, last_of}
 use Rattle.channel.specs.Windows.{offset_in}
 use Rattle.channel.specs.Facts as channel
-use Rattle.rules.specs.Data.{Option, Some, None, Result, Ok, Err, Fault, NoPlace, Refuses, Reason, NoRegister, NotWritable, InService, OfAccess, NotMappable, SplitOctet, Refusal, Side, Direction, Read, Write, Access, Target, InRegister, InFree, InWindow, Facts, Register, Unlisted, Fixed, Address, Alias, OfEntity, OfChannel}
+use Rattle.rules.specs.Data.{Option, Some, None, Result, Ok, Err, Fault, NoPlace, Refuses, NoRegister, NotWritable, InService, OfAccess, NotMappable, SplitOctet, Refusal, Direction, Read, Write, Access, Target, InRegister, InFree, InWindow, Facts, Register, Unlisted, Fixed, Address, Alias, OfEntity, OfChannel}
 use Rattle.rules.specs.Registers.{register_of, listed, may_write}
 
 abbrev pub is_write : Direction → Bool

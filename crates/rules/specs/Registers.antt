@@ -1,5 +1,5 @@
 -- The register map: what stands at each address below 0x1000, read and written octet by octet. Assumes nothing.
-use Rattle.std.specs.Prelude.{ℕ, ◌-◌, ◌/◌, ◌%◌, Bool, true, false, cond, ◌&&◌, ◌||◌, List, [], ◌∷◌, replicate, ◌==◌, nat_le, nat_lt, slice_index_or, slice_set}
+use Rattle.std.specs.Prelude.{ℕ, ◌-◌, ◌/◌, ◌%◌, Bool, true, false, cond, ◌&&◌, ◌||◌, List, replicate, ◌==◌, nat_le, nat_lt, slice_index_or, slice_set}
 use Rattle.access.specs.Fields.{octet_at, with_octet}
 use Rattle.mapping.specs.Registers.{no_entity, entity_octet, with_entity_octet}
 use Rattle.channel.specs.Facts.{is_master}

@@ -1,12 +1,12 @@
 -- The five calls: what each makes of the core and of the memory's octets, and what it answers. Assumes nothing.
-use Rattle.std.specs.Prelude.{ℕ, ◌-◌, ◌/◌, Bool, true, false, cond, List, [], ◌∷◌, map, length, set, replicate, slice_index_or, slice_set}
+use Rattle.std.specs.Prelude.{ℕ, ◌-◌, ◌/◌, List, [], ◌∷◌, map, length, replicate, slice_index_or, slice_set}
 use Rattle.std.specs.Option.{option_map}
 use Rattle.memory.specs.Octets.{read_of, write_of}
 use Rattle.bits.specs.Shares.{laid, stored}
 use Rattle.channel.specs.Areas.{status_in}
 use Rattle.channel.specs.Services.{begun, facts_of, after_store, after_fetch, store_place, fetch_place, after_kept, after_dropped}
 use Rattle.frame.specs.Frames.{answered, kept}
-use Rattle.rules.specs.Data.{Option, Some, None, Result, Ok, Err, MemoryFault, Fault, NoPlace, Refuses, FrameRuns, NoSuchFrame, OfFrame, Side, Local, Direction, Read, Write, Share, Window, Service, Channel, Facts, Access, Target, InRegister, InFree, InWindow, Register, Registers, Running, Core, Outcome, NotWanted, Done, Refused, Verdict, Call, Begin, Octet, End, ReadAt, WriteAt, Answer, Runs, Forwards, Kept, Dropped, Got, Stored, Refuse}
+use Rattle.rules.specs.Data.{Option, Some, None, Result, Ok, Err, MemoryFault, Fault, NoPlace, Refuses, FrameRuns, NoSuchFrame, OfFrame, Local, Read, Write, Share, Window, Service, Channel, Facts, Access, Target, InRegister, InFree, InWindow, Register, Registers, Running, Core, Outcome, NotWanted, Done, Refused, Verdict, Call, Begin, Octet, End, ReadAt, WriteAt, Answer, Runs, Forwards, Kept, Dropped, Got, Stored, Refuse}
 use Rattle.frame.specs.declared.progress.Reason.{Reason}
 use Rattle.rules.specs.Registers.{register_of, octet_of_register, with_settings, with_alias, new_registers}
 use Rattle.rules.specs.Questions.{asked}

@@ -5,7 +5,6 @@ use Rattle.std.specs.Option.{option_map}
 use Rattle.memory.specs.Octets.{read_of, write_of}
 use Rattle.memory.specs.declared.fault.MemoryFault.{MemoryFault}
 use Rattle.access.specs.declared.Direction.TheVariants.{Read, Write}
-use Rattle.access.specs.declared.Side.TheVariants.{Local}
 use Rattle.bits.specs.declared.share.Share.{Share}
 use Rattle.channel.specs.declared.service.Service.{Service}
 use Rattle.channel.specs.Services.{store_place, fetch_place}
@@ -16,11 +15,10 @@ use Rattle.rules.specs.declared.fault.Fault.{Fault}
 use Rattle.rules.specs.declared.data.Access.{Access}
 use Rattle.rules.specs.declared.data.Target.{Target}
 use Rattle.rules.specs.declared.data.Target.TheVariants.{Register, Free, Window}
-use Rattle.rules.specs.declared.data.Core.{Core}
 use Rattle.rules.specs.declared.data.Running.{Running}
-use Rattle.rules.specs.declared.data.Call.TheVariants.{Octet, End, Read as ReadAt, Write as WriteAt}
-use Rattle.rules.specs.Octets.{plain, accesses_of, mine}
-use Rattle.rules.specs.Steps.{Station, Reply, Reads, Writes, service_at, asked_of, fetch_in, store_in, fetch_free, store_free, fetch_window, store_window, fetched, stored_by, reads, writes, read_one, read_all, write_one, write_all, reads_from, writes_from, octet_step, end_of, end_step, read_step, write_step, step, no_such_frame}
+use Rattle.rules.specs.declared.data.Call.TheVariants.{Octet, End}
+use Rattle.rules.specs.Octets.{accesses_of, mine}
+use Rattle.rules.specs.Steps.{Station, Reply, Reads, Writes, service_at, asked_of, fetch_in, store_in, fetch_free, store_free, fetch_window, store_window, fetched, stored_by, reads, writes, read_one, read_all, write_one, write_all, reads_from, writes_from, octet_step, end_of, end_step, step, no_such_frame}
 use Rattle.station.specs.declared.token.Frame.{Frame}
 use Rattle.station.specs.declared.token.EndRefusal.{EndRefusal}
 use Rattle.station.specs.declared.token.EndRefusal.TheVariants.{NotThisFrame, Dropped}

@@ -1,5 +1,5 @@
 use Rattle.std.proofs.Common.{get_or, arith}
-use Rattle.access.proofs.Each.{done-none, done-more, done-all, all-of}
+use Rattle.access.proofs.Each.{done-none, done-more, all-of}
 use Rattle.mapping.specs.Mapping.{bits_covered}
 use Rattle.mapping.specs.Registers.{no_entity}
 use Rattle.mapping.proofs.serving.ranges.Goals as goal

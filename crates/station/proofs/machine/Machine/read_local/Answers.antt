@@ -1,4 +1,3 @@
-use Rattle.rules.specs.Steps.{over}
 use Rattle.station.proofs.Frames.{fetch_same}
 use Rattle.station.proofs.machine.Machine.read_local.Goals as goal
 
