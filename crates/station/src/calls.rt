@@ -7,17 +7,20 @@ ghost use Rattle.rules.specs.Steps.{station as new_station, step};
 ghost use Rattle.rules.specs.After.{Promised};
 ghost use Rattle.station.specs.Replies.{begun_as, octet_as, ended_as, read_as, written_as, SameFrame, Begun, HandedBack};
 
-use crate::machine::Machine;
 use crate::token::{EndRefusal, Frame, OctetAnswer};
+use channel::Channel;
+use core_steps::registers::no_registers;
 use frame::progress::Verdict;
 use memory::Memory;
+use rules::data::Core;
 use rules::fault::Fault;
 use std::marker::Model;
 
 // A contract sees a station as its core beside the list of its memory's octets.
 #[derive(Drop)]
 pub struct Station<M: Memory> {
-    machine: Machine<M>,
+    pub(crate) core: Core,
+    pub(crate) memory: M,
 }
 
 impl<M: Memory> Model for Station<M> {
@@ -25,7 +28,7 @@ impl<M: Memory> Model for Station<M> {
 
     ghost Value = { Seen };
 
-    ghost view = { λ s. over s.machine.core (M.octets s.machine.memory) };
+    ghost view = { λ s. over s.core (M.octets s.memory) };
 }
 
 impl<M: Memory> Station<M> {
@@ -33,16 +36,24 @@ impl<M: Memory> Station<M> {
     pub fn new(memory: M, number: u16) -> Station<M>
         ensures { result ≡ new_station (M.octets memory) number }
     {
+        let channel = Channel { service: None };
         Station {
-            machine: Machine::new(memory, number),
+            core: Core {
+                number,
+                registers: no_registers(),
+                alias: 0,
+                channels: [channel; 8],
+                running: None,
+            },
+            memory,
         }
     }
 
     pub fn into_memory(self) -> M
         ensures { M.octets result ≡ self.octets }
     {
-        let Station { machine } = self;
-        machine.into_memory()
+        let Station { core: _, memory } = self;
+        memory
     }
 
     // A frame begins, unless one runs.
@@ -53,7 +64,7 @@ impl<M: Memory> Station<M> {
         ensures runs { Begun self.new.core result }
         ensures promise { Promised self.old BeginCall self.new (begun_as result) }
     {
-        self.machine.begin_frame()
+        self.begin_frame()
     }
 
     // The next octet of a frame.
@@ -64,7 +75,7 @@ impl<M: Memory> Station<M> {
         ensures frame { SameFrame self.old self.new }
         ensures promise { Promised self.old (OctetCall frame.now.number octet) self.new (octet_as result) }
     {
-        self.machine.octet_of_frame(frame, octet)
+        self.octet_of_frame(frame, octet)
     }
 
     // A frame ends: kept, with the lowest refused enabling if any, or dropped; one that is not this station's running frame is handed back.
@@ -75,7 +86,7 @@ impl<M: Memory> Station<M> {
         ensures back { HandedBack self.old.core frame result }
         ensures promise { Promised self.old (EndCall frame.number verdict) self.new (ended_as result) }
     {
-        self.machine.end_frame(frame, verdict)
+        self.end_frame(frame, verdict)
     }
 
     // The local side reads an octet.
@@ -86,7 +97,7 @@ impl<M: Memory> Station<M> {
         ensures frame { SameFrame self.old self.new }
         ensures promise { Promised self.old (ReadCall address) self.new (read_as result) }
     {
-        self.machine.read_local(address)
+        self.read_local(address)
     }
 
     // The local side writes an octet.
@@ -97,6 +108,6 @@ impl<M: Memory> Station<M> {
         ensures frame { SameFrame self.old self.new }
         ensures promise { Promised self.old (WriteCall address octet) self.new (written_as result) }
     {
-        self.machine.write_local(address, octet)
+        self.write_local(address, octet)
     }
 }

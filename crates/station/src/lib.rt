@@ -2,7 +2,6 @@
 #![tactic(auto)]
 
 mod calls;
-mod machine;
 mod octets;
 mod reach;
 mod script;

@@ -5,7 +5,7 @@ ghost use Rattle.channel.specs.Services.{store_place, fetch_place};
 ghost use Rattle.rules.specs.Steps.{over, service_at, asked_of, register_at, fetch_in, store_in, fetch_free, store_free, fetch_window, store_window, fetched, stored_by, reads, writes};
 ghost use Rattle.station.specs.Replies.{reply};
 
-use crate::machine::Machine;
+use crate::calls::Station;
 use bits::share::Share;
 use channel::Service;
 use core_steps::questions::{ask_area, ask_register, is_mappable, refused};
@@ -14,11 +14,11 @@ use memory::Memory;
 use rules::data::{Access, Register, Target};
 use rules::fault::{Fault, Reason};
 
-impl<M: Memory> Machine<M> {
+impl<M: Memory> Station<M> {
     // All questions before an access, in their order; the memory is asked whether it has the place.
     fn asked(&mut self, access: Access) -> Result<Target, Fault>
-        ensures value { result ≡ asked_of (over self.old.core (M.octets self.old.memory)) access }
-        ensures same { over self.new.core (M.octets self.new.memory) ≡ over self.old.core (M.octets self.old.memory) }
+        ensures value { result ≡ asked_of self.old access }
+        ensures same { self.new ≡ self.old }
     {
         if !is_mappable(access) {
             return Err(refused(Reason::NotMappable, access.address));
@@ -31,7 +31,7 @@ impl<M: Memory> Machine<M> {
     }
 
     fn register_octet(&self, register: Register) -> u8
-        ensures { result ≡ register_at (over self.now.core (M.octets self.now.memory)) register }
+        ensures { result ≡ register_at self.now register }
     {
         let units = (self.memory.size() / 1024) as u8;
         let core = &self.core;
@@ -39,14 +39,14 @@ impl<M: Memory> Machine<M> {
     }
 
     fn fetch_free(&mut self, place: u32) -> Result<u8, Fault>
-        ensures { reply (over self.new.core (M.octets self.new.memory)) result ≡ fetch_free (over self.old.core (M.octets self.old.memory)) (read_of (M.octets self.old.memory) place) }
+        ensures { reply self.new result ≡ fetch_free self.old (read_of self.old.octets place) }
     {
         Ok(self.memory.read(place)?)
     }
 
     // A part of an octet keeps its other bits.
     fn store_free(&mut self, share: Share, place: u32, octet: u8) -> Result<(), Fault>
-        ensures { reply (over self.new.core (M.octets self.new.memory)) result ≡ store_free (over self.old.core (M.octets self.old.memory)) share place octet (read_of (M.octets self.old.memory) place) }
+        ensures { reply self.new result ≡ store_free self.old share place octet (read_of self.old.octets place) }
     {
         let old = self.memory.read(place)?;
         self.memory.write(place, share.stored(old, octet))?;
@@ -55,7 +55,7 @@ impl<M: Memory> Machine<M> {
 
     // The channel picks the buffer.
     fn fetch_in(&mut self, channel: u8, service: Service, offset: u16) -> Result<u8, Fault>
-        ensures { reply (over self.new.core (M.octets self.new.memory)) result ≡ fetch_in (over self.old.core (M.octets self.old.memory)) channel service offset (read_of (M.octets self.old.memory) (fetch_place service offset)) }
+        ensures { reply self.new result ≡ fetch_in self.old channel service offset (read_of self.old.octets (fetch_place service offset)) }
     {
         let octet = self.memory.read(service.fetch_place(offset))?;
         set_service(
@@ -73,7 +73,7 @@ impl<M: Memory> Machine<M> {
         offset: u16,
         octet: u8,
     ) -> Result<(), Fault>
-        ensures { reply (over self.new.core (M.octets self.new.memory)) result ≡ store_in (over self.old.core (M.octets self.old.memory)) channel service offset octet (write_of (M.octets self.old.memory) (store_place service offset)) }
+        ensures { reply self.new result ≡ store_in self.old channel service offset octet (write_of self.old.octets (store_place service offset)) }
     {
         self.memory.write(service.store_place(offset), octet)?;
         set_service(
@@ -85,7 +85,7 @@ impl<M: Memory> Machine<M> {
     }
 
     fn fetch_window(&mut self, channel: u8, offset: u16, place: u32) -> Result<u8, Fault>
-        ensures { reply (over self.new.core (M.octets self.new.memory)) result ≡ fetch_window (over self.old.core (M.octets self.old.memory)) channel offset place (service_at self.old.core.channels channel) }
+        ensures { reply self.new result ≡ fetch_window self.old channel offset place (service_at self.old.core.channels channel) }
     {
         match service_at(&self.core.channels, channel) {
             None => self.fetch_free(place),
@@ -101,7 +101,7 @@ impl<M: Memory> Machine<M> {
         place: u32,
         octet: u8,
     ) -> Result<(), Fault>
-        ensures { reply (over self.new.core (M.octets self.new.memory)) result ≡ store_window (over self.old.core (M.octets self.old.memory)) share channel offset place octet (service_at self.old.core.channels channel) }
+        ensures { reply self.new result ≡ store_window self.old share channel offset place octet (service_at self.old.core.channels channel) }
     {
         match service_at(&self.core.channels, channel) {
             None => self.store_free(share, place, octet),
@@ -110,7 +110,7 @@ impl<M: Memory> Machine<M> {
     }
 
     fn fetch_target(&mut self, access: Access, target: Target) -> Result<u8, Fault>
-        ensures { reply (over self.new.core (M.octets self.new.memory)) result ≡ fetched (over self.old.core (M.octets self.old.memory)) access (Reached target) }
+        ensures { reply self.new result ≡ fetched self.old access (Reached target) }
     {
         match target {
             Target::Register(register) => Ok(self.register_octet(register)),
@@ -123,7 +123,7 @@ impl<M: Memory> Machine<M> {
 
     // A register octet that is written waits elsewhere.
     fn store_target(&mut self, access: Access, octet: u8, target: Target) -> Result<(), Fault>
-        ensures { reply (over self.new.core (M.octets self.new.memory)) result ≡ stored_by (over self.old.core (M.octets self.old.memory)) access octet (Reached target) }
+        ensures { reply self.new result ≡ stored_by self.old access octet (Reached target) }
     {
         match target {
             Target::Register(_) => Ok(()),
@@ -137,7 +137,7 @@ impl<M: Memory> Machine<M> {
 
     // A read.
     pub(crate) fn fetch(&mut self, access: Access) -> Result<u8, Fault>
-        ensures { reply (over self.new.core (M.octets self.new.memory)) result ≡ reads (over self.old.core (M.octets self.old.memory)) access }
+        ensures { reply self.new result ≡ reads self.old access }
     {
         let target = self.asked(access)?;
         self.fetch_target(access, target)
@@ -145,7 +145,7 @@ impl<M: Memory> Machine<M> {
 
     // A write.
     pub(crate) fn store(&mut self, access: Access, octet: u8) -> Result<(), Fault>
-        ensures { reply (over self.new.core (M.octets self.new.memory)) result ≡ writes (over self.old.core (M.octets self.old.memory)) access octet }
+        ensures { reply self.new result ≡ writes self.old access octet }
     {
         let reached = self.asked(access)?;
         self.store_target(access, octet, reached)

@@ -8,7 +8,7 @@ ghost use Rattle.rules.specs.declared.data.Answer.TheVariants.{Kept as Keeps};
 ghost use Rattle.rules.specs.Steps.{over, with_running, with_channels, dropped_channel, octet_answer, octet_given, kept_channels, kept_station, end_of, step};
 ghost use Rattle.station.specs.Replies.{begun_as, octet_as, ended_as, read_as, written_as, Begun, SameFrame, Same, Spent};
 
-use crate::machine::Machine;
+use crate::calls::Station;
 use crate::octets::plain;
 use crate::token::{EndRefusal, Frame, OctetAnswer};
 use access::{Direction, Side};
@@ -39,11 +39,11 @@ fn octet_answer(
     }
 }
 
-impl<M: Memory> Machine<M> {
+impl<M: Memory> Station<M> {
     // A frame begins, unless one runs.
     pub(crate) fn begin_frame(&mut self) -> Result<Frame, Fault>
-        ensures after { over self.new.core (M.octets self.new.memory) ≡ (step (over self.old.core (M.octets self.old.memory)) BeginCall).0 }
-        ensures answer { begun_as result ≡ (step (over self.old.core (M.octets self.old.memory)) BeginCall).1 }
+        ensures after { self.new ≡ (step self.old BeginCall).0 }
+        ensures answer { begun_as result ≡ (step self.old BeginCall).1 }
         ensures runs { Begun self.new.core result }
     {
         match self.core.running {
@@ -60,9 +60,9 @@ impl<M: Memory> Machine<M> {
     // The local side reads an octet.
     #[tactic(auto, using(crate::proofs::Frames::fetch_same))]
     pub(crate) fn read_local(&mut self, address: u32) -> Result<u8, Fault>
-        ensures after { over self.new.core (M.octets self.new.memory) ≡ (step (over self.old.core (M.octets self.old.memory)) (ReadCall address)).0 }
-        ensures answer { read_as result ≡ (step (over self.old.core (M.octets self.old.memory)) (ReadCall address)).1 }
-        ensures frame { SameFrame (over self.old.core (M.octets self.old.memory)) (over self.new.core (M.octets self.new.memory)) }
+        ensures after { self.new ≡ (step self.old (ReadCall address)).0 }
+        ensures answer { read_as result ≡ (step self.old (ReadCall address)).1 }
+        ensures frame { SameFrame self.old self.new }
     {
         let octet = self.fetch(plain(Side::Local, Direction::Read, address))?;
         Ok(octet)
@@ -71,9 +71,9 @@ impl<M: Memory> Machine<M> {
     // The local side writes an octet; into the alias it holds at once.
     #[tactic(auto, using(crate::proofs::Frames::store_same))]
     pub(crate) fn write_local(&mut self, address: u32, octet: u8) -> Result<(), Fault>
-        ensures after { over self.new.core (M.octets self.new.memory) ≡ (step (over self.old.core (M.octets self.old.memory)) (WriteCall address octet)).0 }
-        ensures answer { written_as result ≡ (step (over self.old.core (M.octets self.old.memory)) (WriteCall address octet)).1 }
-        ensures frame { SameFrame (over self.old.core (M.octets self.old.memory)) (over self.new.core (M.octets self.new.memory)) }
+        ensures after { self.new ≡ (step self.old (WriteCall address octet)).0 }
+        ensures answer { written_as result ≡ (step self.old (WriteCall address octet)).1 }
+        ensures frame { SameFrame self.old self.new }
     {
         self.store(plain(Side::Local, Direction::Write, address), octet)?;
         self.core.alias = with_alias(self.core.alias, register_at(address), octet);
@@ -89,7 +89,7 @@ impl<M: Memory> Machine<M> {
         writes: &OctetAccesses,
         accessed: Accessed<Fault>,
     ) -> Result<OctetAnswer, Fault>
-        ensures after { over self.new.core (M.octets self.new.memory) ≡ over (with_running self.old.core (Runs (stepped_running running octet addresses (accesses_in Writing writes.now) accessed.read accessed.write))) (M.octets self.old.memory) }
+        ensures after { self.new ≡ over (with_running self.old.core (Runs (stepped_running running octet addresses (accesses_in Writing writes.now) accessed.read accessed.write))) self.old.octets }
         ensures answer { octet_as result ≡ octet_answer accessed.read accessed.write (answered running.progress octet accessed.laid) }
     {
         let mut next = running;
@@ -100,8 +100,8 @@ impl<M: Memory> Machine<M> {
 
     // Read, then write, then the frame moves on.
     fn octet_given(&mut self, running: Running, octet: u8) -> Result<OctetAnswer, Fault>
-        ensures after { over self.new.core (M.octets self.new.memory) ≡ (octet_given (over self.old.core (M.octets self.old.memory)) running octet).0 }
-        ensures answer { octet_as result ≡ (octet_given (over self.old.core (M.octets self.old.memory)) running octet).1 }
+        ensures after { self.new ≡ (octet_given self.old running octet).0 }
+        ensures answer { octet_as result ≡ (octet_given self.old running octet).1 }
     {
         let wanted = running.progress.wanted();
         let addresses = Addresses {
@@ -122,8 +122,8 @@ impl<M: Memory> Machine<M> {
 
     // The next octet of a frame.
     pub(crate) fn octet_of_frame(&mut self, frame: &Frame, octet: u8) -> Result<OctetAnswer, Fault>
-        ensures after { over self.new.core (M.octets self.new.memory) ≡ (step (over self.old.core (M.octets self.old.memory)) (OctetCall frame.now.number octet)).0 }
-        ensures answer { octet_as result ≡ (step (over self.old.core (M.octets self.old.memory)) (OctetCall frame.now.number octet)).1 }
+        ensures after { self.new ≡ (step self.old (OctetCall frame.now.number octet)).0 }
+        ensures answer { octet_as result ≡ (step self.old (OctetCall frame.now.number octet)).1 }
     {
         match mine(self.core.number, frame.number, self.core.running) {
             None => Err(refused(Reason::NoSuchFrame, 0)),
@@ -133,7 +133,7 @@ impl<M: Memory> Machine<M> {
 
     // What the frame accessed is cancelled.
     fn cancel(&mut self)
-        ensures { over self.new.core (M.octets self.new.memory) ≡ over (with_running (with_channels self.old.core (map dropped_channel self.old.core.channels)) NoFrame) (M.octets self.old.memory) }
+        ensures { self.new ≡ over (with_running (with_channels self.old.core (map dropped_channel self.old.core.channels)) NoFrame) self.old.octets }
     {
         let channels = dropped_channels(&self.core.channels);
         self.core.channels = channels;
@@ -142,8 +142,8 @@ impl<M: Memory> Machine<M> {
 
     // In order: waiting transactions complete, waiting registers are set, services end, enablings are judged. The lowest refused enabling.
     fn keep(&mut self, registers: Registers) -> Option<Fault>
-        ensures after { over self.new.core (M.octets self.new.memory) ≡ (kept_station (over self.old.core (M.octets self.old.memory)) registers (kept_channels (length (M.octets self.old.memory)) registers self.old.core.channels)).0 }
-        ensures answer { Keeps result ≡ (kept_station (over self.old.core (M.octets self.old.memory)) registers (kept_channels (length (M.octets self.old.memory)) registers self.old.core.channels)).1 }
+        ensures after { self.new ≡ (kept_station self.old registers (kept_channels (length self.old.octets) registers self.old.core.channels)).0 }
+        ensures answer { Keeps result ≡ (kept_station self.old registers (kept_channels (length self.old.octets) registers self.old.core.channels)).1 }
     {
         let Enabling {
             channels,
@@ -166,8 +166,8 @@ impl<M: Memory> Machine<M> {
     }
 
     fn end_of(&mut self, running: Running, verdict: Verdict) -> Result<Option<Fault>, EndRefusal>
-        ensures after { over self.new.core (M.octets self.new.memory) ≡ (end_of (over self.old.core (M.octets self.old.memory)) running (kept running.progress verdict)).0 }
-        ensures answer { ended_as result ≡ (end_of (over self.old.core (M.octets self.old.memory)) running (kept running.progress verdict)).1 }
+        ensures after { self.new ≡ (end_of self.old running (kept running.progress verdict)).0 }
+        ensures answer { ended_as result ≡ (end_of self.old running (kept running.progress verdict)).1 }
         ensures spent { Spent result }
     {
         match running.progress.end(verdict) {
@@ -185,8 +185,8 @@ impl<M: Memory> Machine<M> {
         frame: Frame,
         verdict: Verdict,
     ) -> Result<Option<Fault>, EndRefusal>
-        ensures after { over self.new.core (M.octets self.new.memory) ≡ (step (over self.old.core (M.octets self.old.memory)) (EndCall frame.number verdict)).0 }
-        ensures answer { ended_as result ≡ (step (over self.old.core (M.octets self.old.memory)) (EndCall frame.number verdict)).1 }
+        ensures after { self.new ≡ (step self.old (EndCall frame.number verdict)).0 }
+        ensures answer { ended_as result ≡ (step self.old (EndCall frame.number verdict)).1 }
         ensures back { Same frame result }
     {
         let handed = frame.number;

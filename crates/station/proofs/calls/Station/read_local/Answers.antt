@@ -1,5 +1,5 @@
 use Rattle.station.proofs.Frames.{fetch_same}
-use Rattle.station.proofs.machine.Machine.read_local.Goals as goal
+use Rattle.station.proofs.calls.Station.read_local.Goals as goal
 
 pub returns-in_err-octet-clause-frame : goal.returns-in_err-octet-clause-frame
 returns-in_err-octet-clause-frame g c = fetch_same _ _ c.plain.result _ c.fetch.ensures
