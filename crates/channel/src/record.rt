@@ -37,19 +37,14 @@ impl Channel {
     pub fn status(self) -> u8
         ensures { result ≡ status_in self.service }
     {
-        match self.service {
-            None => 0,
-            Some(service) => service.status(),
-        }
+        self.service.map_or(0, |service| service.status())
     }
 
     fn touches(self, window: Window) -> bool
         ensures { result ≡ touches_in window self.service }
     {
-        match self.service {
-            None => false,
-            Some(service) => window.touches(service.window),
-        }
+        self.service
+            .is_some_and(|service| window.touches(service.window))
     }
 }
 

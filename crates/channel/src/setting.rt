@@ -113,13 +113,10 @@ impl Setting {
 fn kind_of(control: u8) -> Option<Kind>
     ensures { result ≡ kind_of control }
 {
-    let field = control % 4;
-    if field == 0 {
-        Some(Kind::Buffered)
-    } else if field == 2 {
-        Some(Kind::Mailbox)
-    } else {
-        None
+    match control % 4 {
+        0 => Some(Kind::Buffered),
+        2 => Some(Kind::Mailbox),
+        _ => None,
     }
 }
 
@@ -127,13 +124,10 @@ fn kind_of(control: u8) -> Option<Kind>
 fn stores_of(control: u8) -> Option<Side>
     ensures { result ≡ stores_of control }
 {
-    let field = control / 4 % 4;
-    if field == 0 {
-        Some(Side::Local)
-    } else if field == 1 {
-        Some(Side::Master)
-    } else {
-        None
+    match control / 4 % 4 {
+        0 => Some(Side::Local),
+        1 => Some(Side::Master),
+        _ => None,
     }
 }
 

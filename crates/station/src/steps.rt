@@ -58,7 +58,6 @@ impl<M: Memory> Station<M> {
     }
 
     // The local side reads an octet.
-    #[tactic(auto, using(crate::proofs::Frames::fetch_same))]
     pub(crate) fn read_local(&mut self, address: u32) -> Result<u8, Fault>
         ensures after { self.new ≡ (step self.old (ReadCall address)).0 }
         ensures answer { read_as result ≡ (step self.old (ReadCall address)).1 }
@@ -69,7 +68,6 @@ impl<M: Memory> Station<M> {
     }
 
     // The local side writes an octet; into the alias it holds at once.
-    #[tactic(auto, using(crate::proofs::Frames::store_same))]
     pub(crate) fn write_local(&mut self, address: u32, octet: u8) -> Result<(), Fault>
         ensures after { self.new ≡ (step self.old (WriteCall address octet)).0 }
         ensures answer { written_as result ≡ (step self.old (WriteCall address octet)).1 }
