@@ -13,7 +13,8 @@ use Rattle.frame.specs.Commands.{command_of, addressing_of, action_of, is_addres
 use Rattle.frame.specs.Outcomes.{met, worth}
 use Rattle.frame.specs.Datagrams.{tallied, added}
 use Rattle.frame.specs.Cursors.{to, data_from, followed_by, carried, shown, wanted_at}
-use Rattle.frame.specs.Wire.{Item, octets, next, out, after, leaving, Telegram, Formed, head, foot, wire, reaches, refused, some, succeeds, gained, passed}
+use Rattle.std.specs.List.{list_any}
+use Rattle.frame.specs.Wire.{Item, octets, next, out, after, leaving, Telegram, Formed, head, foot, wire, reaches, refused, succeeds, gained, passed}
 use Rattle.frame.specs.Laws.{DatagramLeaves, DatagramIsFollowed, DataOctetAsks}
 use Rattle.frame.proofs.Steps.{folded-append, emitted-append, pair-back, length_back, more-back, next_low, next-high, sum_low, sum-high}
 
@@ -28,7 +29,7 @@ failed (NotWanted ∷ xs) = failed xs
 failed (Done v ∷ xs) = failed xs
 failed (Refused f ∷ xs) = failed xs
 
-going : {X F : Type 0} (xs : List (Outcome X F)) (n : ℕ) → worth (met_all Success xs) n ≡ cond (not (some refused xs)) n 0
+going : {X F : Type 0} (xs : List (Outcome X F)) (n : ℕ) → worth (met_all Success xs) n ≡ cond (not (list_any refused xs)) n 0
 going [] n = refl
 going (NotWanted ∷ xs) n = going xs n
 going (Done v ∷ xs) n = going xs n

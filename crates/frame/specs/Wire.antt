@@ -1,6 +1,7 @@
 -- Frames on the wire, told by their fields. With each octet stands what the machine was told of it: the station's addresses then, and what
 -- came of its accesses. Any may be told of any octet.
 use Rattle.std.specs.Prelude.{ℕ, ◌+◌, ◌*◌, ◌/◌, ◌%◌, ◌<◌, Bool, true, false, cond, not, ◌&&◌, ◌||◌, List, [], ◌∷◌, ◌++◌, map, length, fold}
+use Rattle.std.specs.List.{list_any}
 use Rattle.frame.specs.declared.command.Addresses.{Addresses}
 use Rattle.frame.specs.declared.outcome.Outcome.{Outcome}
 use Rattle.frame.specs.declared.outcome.Outcome.TheVariants.{NotWanted, Done, Refused}
@@ -119,12 +120,8 @@ refused NotWanted = false
 refused (Done v) = false
 refused (Refused f) = true
 
-abbrev pub some : {Y : Type 0} → (Y → Bool) → List Y → Bool
-some p [] = false
-some p (x ∷ xs) = p x || some p xs
-
 abbrev pub succeeds : {X F : Type 0} → List (Outcome X F) → Bool
-succeeds xs = some concerned xs && not (some refused xs)
+succeeds xs = list_any concerned xs && not (list_any refused xs)
 
 abbrev pub gained : {F : Type 0} → Telegram F → ℕ
 gained t =

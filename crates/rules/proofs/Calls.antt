@@ -14,7 +14,7 @@ use Rattle.rules.specs.Questions.{asked, channel_at}
 use Rattle.rules.specs.Octets.{plain, accesses_for, accesses_of, given_running, mine}
 use Rattle.rules.specs.Steps.{Station, Reply, over, with_running, Reads, Writes, reads_from, writes_from, octet_answer, octet_taken, octet_given, octet_step, no_such_frame, kept_channels, kept_station, end_of, end_step, begin_step, read_step, write_step, step}
 use Rattle.rules.specs.Account.{Account, told, told_at, reads_told, writes_told, frame_accesses, accesses, after_reads, after_accesses, given, kept_stories, kept_account, waiting_of, refused_octet, note}
-use Rattle.rules.specs.Promise.{All, asked_all, bare, bare_answer, refusal, due, due_octet, due_end, due_verdict, due_local, RefusedAt, RefusedRightly, Answered}
+use Rattle.rules.specs.Promise.{Every, asked_all, bare, bare_answer, refusal, due, due_octet, due_end, due_verdict, due_local, RefusedAt, RefusedRightly, Answered}
 use Rattle.rules.proofs.Held.{Channels, Held}
 use Rattle.rules.specs.Faults.{Notice, notice}
 use Rattle.rules.proofs.Words.{noticed, words-one}
@@ -31,7 +31,7 @@ pub record Goes (N : ℕ) (number : ℕ) (a : Account) (c : Call) (r : Station �
   pub held : Held N number r.0 (note N number a c r.1)
   pub answered : Answered N number a c r.1
 
-module _ (N : ℕ) (small : N ≤ 61440) (s : Station) (ts : List (Option Story)) (past : List Story) (size : length s.octets ≡ N) (h : Channels s.octets s.core.channels ts) (whole : All law.Whole past) where
+module _ (N : ℕ) (small : N ≤ 61440) (s : Station) (ts : List (Option Story)) (past : List Story) (size : length s.octets ≡ N) (h : Channels s.octets s.core.channels ts) (whole : Every law.Whole past) where
   abbrev number : ℕ
   number = s.core.number
 

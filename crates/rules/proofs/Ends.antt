@@ -17,7 +17,7 @@ use Rattle.rules.specs.Questions.{in_service}
 use Rattle.rules.specs.Enabling.{as_channel, disabled, lasting, Enabled, decided, asks, enabled_one, enabled_from}
 use Rattle.rules.specs.Steps.{out_of_service, service_at, window_in, begun_channel, kept_channel, dropped_channel, kept_channels}
 use Rattle.rules.specs.Account.{story_window, begun_story, ended, kept_stories}
-use Rattle.rules.specs.Promise.{All}
+use Rattle.rules.specs.Promise.{Every}
 use Rattle.rules.proofs.Lists.{map_at, map-length, lists-same, pairs_set}
 use Rattle.rules.proofs.Held.{HeldIf, HeldIn, ApartIf, story_at, window_at, Channels}
 use Rattle.rules.proofs.Accesses.{when-window, apart-as}
@@ -108,13 +108,13 @@ all-lasting m ss cs ts h =
           (apart-cond (get_or ss i no_setting).enable (get_or ss j no_setting).enable (story_at ts i) (story_at ts j) (h.apart i j ne)));
     }
 
-ended-whole : (ss : List Setting) (ts : List (Option Story)) → ((n : ℕ) (t : Story) → story_at ts n ≡ Some t → law.Whole t) → (past : List Story) → All law.Whole past → All law.Whole (ended ss ts ++ past)
+ended-whole : (ss : List Setting) (ts : List (Option Story)) → ((n : ℕ) (t : Story) → story_at ts n ≡ Some t → law.Whole t) → (past : List Story) → Every law.Whole past → Every law.Whole (ended ss ts ++ past)
 ended-whole [] ts h past p = p
 ended-whole (s ∷ ss) [] h past p = p
 ended-whole (s ∷ ss) (None ∷ ts) h past p = ended-whole ss ts (λ n t e. h (suc n) t e) past p
 ended-whole (s ∷ ss) (Some t ∷ ts) h past p = go s.enable (ended-whole ss ts (λ n u e. h (suc n) u e) past p)
   where
-    go : (b : Bool) → All law.Whole (ended ss ts ++ past) → All law.Whole (cond b (ended ss ts) (t ∷ ended ss ts) ++ past)
+    go : (b : Bool) → Every law.Whole (ended ss ts ++ past) → Every law.Whole (cond b (ended ss ts) (t ∷ ended ss ts) ++ past)
     go true rest = rest
     go false rest = (h 0 t refl, rest)
 
@@ -124,7 +124,7 @@ story-whole m None (Some u) t h e = absurd h
 story-whole m (Some s) None t h e = absurd h
 story-whole m (Some s) (Some u) t h e = let is : u ≡ t = (let z = e in cc) in subst law.Whole is (whole.whole m s u h)
 
-pub past-whole : (m : List ℕ) (ss : List Setting) (cs : List Channel) (ts : List (Option Story)) → Channels m cs ts → (past : List Story) → All law.Whole past → All law.Whole (ended ss ts ++ past)
+pub past-whole : (m : List ℕ) (ss : List Setting) (cs : List Channel) (ts : List (Option Story)) → Channels m cs ts → (past : List Story) → Every law.Whole past → Every law.Whole (ended ss ts ++ past)
 past-whole m ss cs ts h past p = ended-whole ss ts (λ n t e. story-whole m (service_at cs n) (story_at ts n) t (h.held n) e) past p
 
 -- ENABLINGS, one after the other

@@ -11,7 +11,7 @@ use Rattle.channel_law.proofs.Whole as whole
 use Rattle.rules.specs.Data.{Option, Some, None, Window, Service, Channel, Facts}
 use Rattle.rules.specs.Steps.{Station, station, out_of_service, service_at, known}
 use Rattle.rules.specs.Account.{Account, nothing, told, story_window}
-use Rattle.rules.specs.Promise.{All, WholeIfAny}
+use Rattle.rules.specs.Promise.{Every, WholeIfAny}
 use Rattle.rules.proofs.Lists.{map_at, map-length, lists-same}
 
 -- ONE CHANNEL: both are out of service, or its invariant holds
@@ -51,7 +51,7 @@ pub record Held (N number : ℕ) (s : Station) (a : Account) : Type 0 where
   pub alias : s.core.alias ≡ a.alias
   pub running : s.core.running ≡ a.running
   pub channels : Channels s.octets s.core.channels a.current
-  pub past : All law.Whole a.past
+  pub past : Every law.Whole a.past
 
 -- a new station
 replicate-at : {X : Type 0} (k n : ℕ) (x : X) → get_or (replicate k x) n x ≡ x
@@ -98,9 +98,9 @@ whole-if m None (Some t) h = absurd h
 whole-if m (Some s) None h = absurd h
 whole-if m (Some s) (Some t) h = whole.whole m s t h
 
-all-at : {X : Type 0} (P : X → Type 0) (d : X) (xs : List X) → ((n : ℕ) → P (get_or xs n d)) → All P xs
+all-at : {X : Type 0} (P : X → Type 0) (d : X) (xs : List X) → ((n : ℕ) → P (get_or xs n d)) → Every P xs
 all-at P d [] h = tt
 all-at P d (x ∷ xs) h = (h 0, all-at P d xs (λ n. h (suc n)))
 
-pub stories-whole : (m : List ℕ) (cs : List Channel) (ts : List (Option Story)) → Channels m cs ts → All WholeIfAny ts
+pub stories-whole : (m : List ℕ) (cs : List Channel) (ts : List (Option Story)) → Channels m cs ts → Every WholeIfAny ts
 stories-whole m cs ts h = all-at WholeIfAny None ts (λ n. whole-if m (service_at cs n) (story_at ts n) (h.held n))

@@ -4,7 +4,7 @@ use Rattle.channel_law.specs.Law as law
 use Rattle.rules.specs.Data.{Call}
 use Rattle.rules.specs.Steps.{Station, station, step, history}
 use Rattle.rules.specs.Account.{Account, nothing, note, tell}
-use Rattle.rules.specs.Promise.{All, WholeIfAny, EachAnswered, MessagesAreWhole}
+use Rattle.rules.specs.Promise.{Every, WholeIfAny, EachAnswered, MessagesAreWhole}
 use Rattle.rules.proofs.Held.{Held, first, stories-whole}
 use Rattle.rules.proofs.Calls.{call-goes}
 
@@ -13,7 +13,7 @@ each N number s a h [] = tt
 each N number s a h (c ∷ cs) =
     let g = call-goes N number s a h c in (g.answered, each N number (step s c).0 (note N number a c (step s c).1) g.held cs)
 
-wholes : (N number : ℕ) (s : Station) (a : Account) → Held N number s a → (cs : List Call) → All WholeIfAny (tell N number a (history s cs)).current × All law.Whole (tell N number a (history s cs)).past
+wholes : (N number : ℕ) (s : Station) (a : Account) → Held N number s a → (cs : List Call) → Every WholeIfAny (tell N number a (history s cs)).current × Every law.Whole (tell N number a (history s cs)).past
 wholes N number s a h [] = (stories-whole s.octets s.core.channels a.current h.channels, h.past)
 wholes N number s a h (c ∷ cs) = wholes N number (step s c).0 (note N number a c (step s c).1) (call-goes N number s a h c).held cs
 

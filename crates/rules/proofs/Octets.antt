@@ -13,7 +13,7 @@ use Rattle.rules.specs.Questions.{channel_at, asked}
 use Rattle.rules.specs.Octets.{plain, through_mapping, accesses_at, wants, accesses_for, accesses_of}
 use Rattle.rules.specs.Steps.{Station, Reply, over, Reads, Writes, also_done, also_refused, read_one, read_all, write_one, write_all, reads_from, writes_from}
 use Rattle.rules.specs.Account.{told, told_at, told_all, reads_told, writes_told}
-use Rattle.rules.specs.Promise.{All, also_asked, asked_all, bare, refusal, RefusedIn, RefusedAt, RefusedRightly}
+use Rattle.rules.specs.Promise.{Every, also_asked, asked_all, bare, refusal, RefusedIn, RefusedAt, RefusedRightly}
 use Rattle.rules.proofs.Reached.{window-reached}
 use Rattle.rules.proofs.Held.{Channels}
 use Rattle.rules.specs.Faults.{Notice, notice}
@@ -22,10 +22,10 @@ use Rattle.rules.proofs.Accesses.{Rest, rest-same, ReadView, read-refused, read_
 
 -- all of one direction
 abbrev pub Ways : Direction → List Access → Type 0
-Ways d xs = All (λ x. x.direction ≡ d) xs
+Ways d xs = Every (λ x. x.direction ≡ d) xs
 
 abbrev pub Parts : List Access → Type 0
-Parts xs = All (λ x. splits x.share ≡ true) xs
+Parts xs = Every (λ x. splits x.share ≡ true) xs
 
 abbrev pub Sole : List Access → Type 0
 Sole xs = (x : Access) × (xs ≡ x ∷ []) × (x.share ≡ Whole)

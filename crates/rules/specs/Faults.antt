@@ -1,5 +1,5 @@
 -- The number, the address and the channel of a refusal. Assumes nothing.
-use Rattle.std.specs.Prelude.{ℕ, ◌+◌, min, Some, None, Option}
+use Rattle.std.specs.Prelude.{ℕ, ◌+◌, min, Option, unwrap_or}
 use Rattle.memory.specs.Octets.{place_of}
 use Rattle.memory.specs.Octets as memory
 use Rattle.channel.specs.Facts.{refusal_number}
@@ -31,13 +31,10 @@ abbrev pub address_of : Fault → ℕ
 address_of (Memory f) = min (place_of f + 0x1000) (0xFFFFFFFF)
 address_of (Station r a n) = a
 
-abbrev pub or_none : Option ℕ → ℕ
-or_none None = 255
-or_none (Some n) = n
-
+-- 255: it speaks of no channel
 abbrev pub channel_of : Fault → ℕ
 channel_of (Memory f) = 255
-channel_of (Station r a n) = or_none n
+channel_of (Station r a n) = unwrap_or n 255
 
 -- what a refusal tells: its number, the physical address and the channel
 pub record Notice : Type 0 where

@@ -20,9 +20,9 @@ use Rattle.rules.specs.Account.{Account, nothing, told, accesses, read_outcome, 
 -- MESSAGES. Every service, the current ones and those that ended, reads its messages whole. (Every reading, completed or not, shows the latest
 -- writing completed before it opened, and there is one; in a mailbox besides the nth completed reading shows the nth completed writing, and
 -- completed writings are completed readings plus 0 or 1.)
-abbrev pub All : {X : Type 0} → (X → Type 0) → List X → Type 0
-All P [] = Unit {0}
-All P (x ∷ xs) = P x × All P xs
+abbrev pub Every : {X : Type 0} → (X → Type 0) → List X → Type 0
+Every P [] = Unit {0}
+Every P (x ∷ xs) = P x × Every P xs
 
 abbrev pub WholeIfAny : Option Story → Type 0
 WholeIfAny None = Unit {0}
@@ -103,7 +103,7 @@ RefusedAt ts x r None = Unit {0}
 RefusedAt ts x r (Some n) = RefusedIn x n r (slice_index_or ts n None)
 
 abbrev pub RefusedRightly : List (Option Story) → (refused : Option Notice) → List Access → Type 0
-RefusedRightly ts r xs = All (λ x. RefusedAt ts x r (channel_at (told ts) x.address)) xs
+RefusedRightly ts r xs = Every (λ x. RefusedAt ts x r (channel_at (told ts) x.address)) xs
 
 -- one call, against the account of the calls before it
 pub record Answered (N number : ℕ) (a : Account) (c : Call) (y : Answer) : Type 0 where
@@ -117,8 +117,8 @@ EachAnswered N number a (e ∷ es) = Answered N number a e.0 e.1 × EachAnswered
 
 -- THE PROMISE
 pub record Promise (N number : ℕ) (h : List (Call × Answer)) : Type 0 where
-  pub current : All WholeIfAny (tell N number nothing h).current
-  pub past : All law.Whole (tell N number nothing h).past
+  pub current : Every WholeIfAny (tell N number nothing h).current
+  pub past : Every law.Whole (tell N number nothing h).past
   pub refusals : EachAnswered N number nothing h
 
 -- Whatever octets the memory starts with and whatever calls are made, in frames of any number.
