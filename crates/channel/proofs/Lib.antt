@@ -1,1 +1,1 @@
-mod Octets
+pub mod Octets
