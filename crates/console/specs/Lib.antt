@@ -1,1 +1,4 @@
 pub mod Numerals
+pub mod Text
+pub mod Lines
+pub mod Scripts

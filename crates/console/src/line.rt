@@ -1,7 +1,12 @@
 // What a line of a script says.
+ghost use Rattle.std.specs.Prelude.{◌≡◌, IfOk};
+ghost use Rattle.console.specs.Text.{words_of, texts_of};
+ghost use Rattle.console.specs.Lines.{verdict_named, frame_named, octet_said, end_said, read_said, write_said, call_named, memory_named, station_said, said_of, line_said};
+
 use crate::words::{number, octet, short};
 use frame::progress::Verdict;
 use rules::data::Call;
+use std::alloc::{AllocError, Global};
 
 // The memory that a script asks for: octets in a row, words, or a row followed by words.
 #[derive(Clone, Copy)]
@@ -20,67 +25,114 @@ pub enum Line {
     Octets,
 }
 
-// Blank lines and lines that begin with # say nothing.
-pub fn is_passed_over(text: &str) -> bool {
-    text.starts_with("#") || text.trim().is_empty()
+// The words of a text: what stands between white space.
+pub fn words_of(heap: Global, text: &str) -> Result<Vec<&str>, AllocError>
+    ensures { IfOk result (λ words. texts_of words.items ≡ words_of text.now) }
+{
+    text.split_whitespace().collect(heap)
 }
 
-// What a line says, if it can be read. A frame of which no number is told is of the station's own.
-pub fn line_of(text: &str, own: u16) -> Option<Line> {
-    let mut words = text.split_whitespace();
-    match (
-        words.next(),
-        words.next(),
-        words.next(),
-        words.next(),
-        words.next(),
-    ) {
-        (Some("octets"), ..) => Some(Line::Octets),
-        (Some("memory"), Some(kind), Some(size), more, None) => Some(Line::Memory(kind_of(
-            kind, size, more,
-        )?)),
-        (Some("station"), Some(number), None, None, None) => Some(Line::Station(short(number)?)),
-        (Some(name), first, second, third, None) => Some(Line::Call(call_of(
-            name, first, second, third, own,
-        )?)),
-        _ => None,
+// What the words of a line say, if it can be read. A frame of which no number is told is of the station's own.
+pub fn line_of(words: &[&str], own: u16) -> Option<Line>
+    ensures { result ≡ line_said (texts_of words.now) own }
+{
+    match *words {
+        [] => None,
+        [name, ref words @ ..] => said_of(name, words, own),
     }
 }
 
-fn kind_of(kind: &str, size: &str, more: Option<&str>) -> Option<Kind> {
-    let size = number(size)?;
-    match (kind, more) {
-        ("octets", None) => Some(Kind::Octets { octets: size }),
-        ("words", None) => Some(Kind::Words { words: size }),
-        ("joined", Some(words)) => Some(Kind::Joined {
-            octets: size,
+fn said_of(name: &str, words: &[&str], own: u16) -> Option<Line>
+    ensures { result ≡ said_of name.now (texts_of words.now) own }
+{
+    match name {
+        "octets" => Some(Line::Octets),
+        "memory" => Some(Line::Memory(memory_of(words)?)),
+        "station" => Some(Line::Station(station_of(words)?)),
+        _ => Some(Line::Call(call_of(name, words, own)?)),
+    }
+}
+
+fn memory_of(words: &[&str]) -> Option<Kind>
+    ensures { result ≡ memory_named (texts_of words.now) }
+{
+    match *words {
+        [kind, octets] if kind == "octets" => Some(Kind::Octets {
+            octets: number(octets)?,
+        }),
+        [kind, words] if kind == "words" => Some(Kind::Words {
+            words: number(words)?,
+        }),
+        [kind, octets, words] if kind == "joined" => Some(Kind::Joined {
+            octets: number(octets)?,
             words: number(words)?,
         }),
         _ => None,
     }
 }
 
-fn call_of(
-    name: &str,
-    first: Option<&str>,
-    second: Option<&str>,
-    third: Option<&str>,
-    own: u16,
-) -> Option<Call> {
-    match (name, first, second, third) {
-        ("begin", None, None, None) => Some(Call::Begin),
-        ("octet", Some(word), of, number) => Some(Call::Octet {
-            frame: frame_of(of, number, own)?,
-            octet: octet(word)?,
-        }),
-        ("end", Some(word), of, number) => Some(Call::End {
-            frame: frame_of(of, number, own)?,
-            verdict: verdict_of(word)?,
-        }),
-        ("read", Some(address), None, None) => Some(Call::Read {
+fn station_of(words: &[&str]) -> Option<u16>
+    ensures { result ≡ station_said (texts_of words.now) }
+{
+    match *words {
+        [number] => short(number),
+        _ => None,
+    }
+}
+
+fn call_of(name: &str, words: &[&str], own: u16) -> Option<Call>
+    ensures { result ≡ call_named name.now (texts_of words.now) own }
+{
+    match name {
+        "begin" if words.is_empty() => Some(Call::Begin),
+        "octet" => octet_call(words, own),
+        "end" => end_call(words, own),
+        "read" => read_call(words),
+        "write" => write_call(words),
+        _ => None,
+    }
+}
+
+fn octet_call(words: &[&str], own: u16) -> Option<Call>
+    ensures { result ≡ octet_said (texts_of words.now) own }
+{
+    let [word, ref of @ ..] = *words else {
+        return None;
+    };
+    Some(Call::Octet {
+        frame: frame_of(of, own)?,
+        octet: octet(word)?,
+    })
+}
+
+fn end_call(words: &[&str], own: u16) -> Option<Call>
+    ensures { result ≡ end_said (texts_of words.now) own }
+{
+    let [word, ref of @ ..] = *words else {
+        return None;
+    };
+    Some(Call::End {
+        frame: frame_of(of, own)?,
+        verdict: verdict_of(word)?,
+    })
+}
+
+fn read_call(words: &[&str]) -> Option<Call>
+    ensures { result ≡ read_said (texts_of words.now) }
+{
+    match *words {
+        [address] => Some(Call::Read {
             address: u32::from(short(address)?),
         }),
-        ("write", Some(address), Some(word), None) => Some(Call::Write {
+        _ => None,
+    }
+}
+
+fn write_call(words: &[&str]) -> Option<Call>
+    ensures { result ≡ write_said (texts_of words.now) }
+{
+    match *words {
+        [address, word] => Some(Call::Write {
             address: u32::from(short(address)?),
             octet: octet(word)?,
         }),
@@ -89,15 +141,19 @@ fn call_of(
 }
 
 // The number of the frame handed in: `of` and a number, or nothing.
-fn frame_of(of: Option<&str>, number: Option<&str>, own: u16) -> Option<u16> {
-    match (of, number) {
-        (None, None) => Some(own),
-        (Some("of"), Some(number)) => short(number),
+fn frame_of(words: &[&str], own: u16) -> Option<u16>
+    ensures { result ≡ frame_named (texts_of words.now) own }
+{
+    match *words {
+        [] => Some(own),
+        [word, number] if word == "of" => short(number),
         _ => None,
     }
 }
 
-fn verdict_of(word: &str) -> Option<Verdict> {
+fn verdict_of(word: &str) -> Option<Verdict>
+    ensures { result ≡ verdict_named word.now }
+{
     match word {
         "good" => Some(Verdict::Good),
         "bad" => Some(Verdict::Bad),

@@ -113,7 +113,7 @@ fn read_script(input: impl Read + Drop, heap: Global, script: &mut Script) -> an
     let mut count = 0u64;
     for line in BufReader::new(heap, input)?.split(heap, b'\n') {
         count = count.wrapping_add(1);
-        script.take(line?.as_slice(), count)?;
+        script.take(heap, line?.as_slice(), count)?;
     }
     Ok(())
 }

@@ -1,11 +1,15 @@
 // A whole script: the set-up, the calls in order, and which lines cannot be read.
-ghost use Rattle.std.specs.Prelude.{◌≡◌, length};
+ghost use Rattle.std.specs.Prelude.{◌≡◌, [], ◌∷◌, length, OnOk, OnErr, is_some};
+ghost use Rattle.std.specs.List.{list_all};
+ghost use Rattle.console.specs.Numerals.{octet_of};
 ghost use Rattle.std.specs.Option.{unwrap_or};
 ghost use Rattle.rules.specs.Steps.{station as new_station, runs, history};
 ghost use Rattle.rules.specs.Promise.{Promise};
 ghost use Rattle.station.specs.Scripts.{calls_of, told};
+ghost use Rattle.console.specs.Text.{texts_of};
+ghost use Rattle.console.specs.Scripts.{held, nothing, refused, with_calls, with_memory, with_number, are_octets, with_octets, with_words, with_line, GoesOn};
 
-use crate::line::{Kind, Line, is_passed_over, line_of};
+use crate::line::{Kind, Line, line_of, words_of};
 use crate::words::octet;
 use memory::Memory;
 use rules::data::{Answer, Call};
@@ -28,7 +32,9 @@ pub struct Script {
 }
 
 impl Script {
-    pub fn new(heap: Global) -> Script {
+    pub fn new(heap: Global) -> Script
+        ensures { held result ≡ nothing }
+    {
         Script {
             kind: None,
             number: None,
@@ -37,7 +43,9 @@ impl Script {
         }
     }
 
-    pub fn kind(&self) -> Kind {
+    pub fn kind(&self) -> Kind
+        ensures { result ≡ unwrap_or self.now.kind (Kind.Octets 4096) }
+    {
         self.kind.unwrap_or(Kind::Octets { octets: 4096 })
     }
 
@@ -71,40 +79,68 @@ impl Script {
     }
 
     // Takes the next line, the octets of it that are no text included.
-    pub fn take(&mut self, line: &[u8], count: u64) -> Result<(), AllocError> {
+    pub fn take(&mut self, heap: Global, line: &[u8], count: u64) -> Result<(), AllocError>
+        ensures ok { OnOk result (held self.new ≡ with_line line.now count (held self.old)) }
+        ensures err { OnErr result (GoesOn (held self.old) (held self.new)) }
+    {
+        if line.starts_with(b"#") {
+            return Ok(());
+        }
         match std::str::from_utf8(line) {
-            Ok(text) => self.take_text(text, count),
-            Err(_) if line.starts_with(b"#") => Ok(()),
+            Ok(text) => self.take_words(&words_of(heap, text)?, count),
             Err(_) => self.refuse(count),
         }
     }
 
-    fn take_text(&mut self, text: &str, count: u64) -> Result<(), AllocError> {
-        if is_passed_over(text) {
+    // A blank line says nothing.
+    fn take_words(&mut self, words: &[&str], count: u64) -> Result<(), AllocError>
+        ensures ok { OnOk result (held self.new ≡ with_words (texts_of words.now) count (held self.old)) }
+        ensures err { OnErr result (GoesOn (held self.old) (held self.new)) }
+    {
+        if words.is_empty() {
             return Ok(());
         }
-        match line_of(text, self.number()) {
+        match line_of(words, self.number()) {
             Some(Line::Call(call)) => self.push(call),
-            Some(Line::Octets) => self.take_octets(text, count),
-            Some(Line::Memory(kind)) if self.kind.is_none() && self.entries.is_empty() => {
-                self.kind = Some(kind);
-                Ok(())
-            }
-            Some(Line::Station(number)) if self.number.is_none() && self.entries.is_empty() => {
-                self.number = Some(number);
-                Ok(())
-            }
-            _ => self.refuse(count),
+            Some(Line::Octets) => self.take_octets(&words[1..], count),
+            Some(Line::Memory(kind)) => self.take_memory(kind, count),
+            Some(Line::Station(number)) => self.take_number(number, count),
+            None => self.refuse(count),
         }
     }
 
+    fn take_memory(&mut self, kind: Kind, count: u64) -> Result<(), AllocError>
+        ensures ok { OnOk result (held self.new ≡ with_memory kind count (held self.old)) }
+        ensures err { OnErr result (held self.new ≡ held self.old) }
+    {
+        if self.kind.is_some() || !self.entries.is_empty() {
+            return self.refuse(count);
+        }
+        self.kind = Some(kind);
+        Ok(())
+    }
+
+    fn take_number(&mut self, number: u16, count: u64) -> Result<(), AllocError>
+        ensures ok { OnOk result (held self.new ≡ with_number number count (held self.old)) }
+        ensures err { OnErr result (held self.new ≡ held self.old) }
+    {
+        if self.number.is_some() || !self.entries.is_empty() {
+            return self.refuse(count);
+        }
+        self.number = Some(number);
+        Ok(())
+    }
+
     // A call for each octet of the line, or none if one of them cannot be read.
-    fn take_octets(&mut self, text: &str, count: u64) -> Result<(), AllocError> {
-        if !has_octets(text) {
+    fn take_octets(&mut self, words: &[&str], count: u64) -> Result<(), AllocError>
+        ensures ok { OnOk result (held self.new ≡ with_octets (texts_of words.now) count (held self.old)) }
+        ensures err { OnErr result (GoesOn (held self.old) (held self.new)) }
+    {
+        if !are_octets(words) {
             return self.refuse(count);
         }
         let frame = self.number();
-        for word in text.split_whitespace().skip(1) {
+        for word in words {
             if let Some(octet) = octet(word) {
                 self.push(Call::Octet { frame, octet })?;
             }
@@ -112,27 +148,34 @@ impl Script {
         Ok(())
     }
 
-    fn push(&mut self, call: Call) -> Result<(), AllocError> {
+    fn push(&mut self, call: Call) -> Result<(), AllocError>
+        ensures ok { OnOk result (held self.new ≡ with_calls (call ∷ []) (held self.old)) }
+        ensures err { OnErr result (GoesOn (held self.old) (held self.new)) }
+    {
         let answer = Answer::Running;
         self.entries.push(Entry { call, answer })?;
         self.items.push(Item::Call)?;
         Ok(())
     }
 
-    fn refuse(&mut self, line: u64) -> Result<(), AllocError> {
+    fn refuse(&mut self, line: u64) -> Result<(), AllocError>
+        ensures ok { OnOk result (held self.new ≡ refused line (held self.old)) }
+        ensures err { OnErr result (held self.new ≡ held self.old) }
+    {
         self.items.push(Item::Unreadable { line })?;
         Ok(())
     }
 }
 
-// Whether at least one octet follows the first word, and nothing else.
-fn has_octets(text: &str) -> bool {
-    let mut some = false;
-    for word in text.split_whitespace().skip(1) {
-        if octet(word).is_none() {
-            return false;
-        }
-        some = true;
-    }
-    some
+// Whether there is at least one octet, and nothing else.
+fn are_octets(words: &[&str]) -> bool
+    ensures { result ≡ are_octets (texts_of words.now) }
+{
+    !words.is_empty() && all_octets(words)
+}
+
+fn all_octets(words: &[&str]) -> bool
+    ensures { result ≡ list_all (λ word. is_some (octet_of word)) (texts_of words.now) }
+{
+    words.iter().all(|word| octet(word).is_some())
 }
