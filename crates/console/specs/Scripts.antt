@@ -74,9 +74,13 @@ with_said (Some (Station number)) words n h = with_number number n h
 abbrev pub with_words : List (List ℕ) → (n : ℕ) → Held → Held
 with_words words n h = cond (length words == 0) h (with_said (line_said words (own_number h)) (drop 1 words) n h)
 
--- line n, by its octets; one that begins with # adds nothing, and one that is no text cannot be read
+-- the octets of line n, which cannot be read if they are no text
+abbrev pub with_text : List ℕ → (n : ℕ) → Held → Held
+with_text line n h = cond (is_utf8 line) (with_words (words_of line) n h) (refused n h)
+
+-- line n, by its octets; one that begins with # adds nothing
 abbrev pub with_line : List ℕ → (n : ℕ) → Held → Held
-with_line line n h = cond (starts_with nat_eq line (codes "#")) h (cond (is_utf8 line) (with_words (words_of line) n h) (refused n h))
+with_line line n h = cond (starts_with nat_eq line (codes "#")) h (with_text line n h)
 
 -- new has the set-up of old, and its calls and items are those of old and maybe more
 pub record GoesOn (old new : Held) : Type 0 where

@@ -7,7 +7,7 @@ ghost use Rattle.rules.specs.Steps.{station as new_station, runs, history};
 ghost use Rattle.rules.specs.Promise.{Promise};
 ghost use Rattle.station.specs.Scripts.{calls_of, told};
 ghost use Rattle.console.specs.Text.{texts_of};
-ghost use Rattle.console.specs.Scripts.{held, nothing, refused, with_calls, with_memory, with_number, are_octets, with_octets, with_words, with_line, GoesOn};
+ghost use Rattle.console.specs.Scripts.{held, nothing, refused, with_calls, with_memory, with_number, are_octets, with_octets, with_words, with_text, with_line, GoesOn};
 
 use crate::line::{Kind, Line, line_of, words_of};
 use crate::words::octet;
@@ -78,7 +78,7 @@ impl Script {
         replay(memory, self.number(), self.entries.as_mut_slice())
     }
 
-    // Takes the next line, the octets of it that are no text included.
+    // Takes the next line, the octets of it that are no text included. A line that begins with # says nothing.
     pub fn take(&mut self, heap: Global, line: &[u8], count: u64) -> Result<(), AllocError>
         ensures ok { OnOk result (held self.new ≡ with_line line.now count (held self.old)) }
         ensures err { OnErr result (GoesOn (held self.old) (held self.new)) }
@@ -86,6 +86,13 @@ impl Script {
         if line.starts_with(b"#") {
             return Ok(());
         }
+        self.take_text(heap, line, count)
+    }
+
+    fn take_text(&mut self, heap: Global, line: &[u8], count: u64) -> Result<(), AllocError>
+        ensures ok { OnOk result (held self.new ≡ with_text line.now count (held self.old)) }
+        ensures err { OnErr result (GoesOn (held self.old) (held self.new)) }
+    {
         match std::str::from_utf8(line) {
             Ok(text) => self.take_words(&words_of(heap, text)?, count),
             Err(_) => self.refuse(count),
