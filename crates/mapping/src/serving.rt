@@ -36,15 +36,22 @@ impl BitRange {
     pub(crate) fn in_octet(self, address: u64) -> u8
         ensures { result ≡ octet_of (λ i. nat_le self.first (8 * address + i) && nat_le (8 * address + i) self.last) }
     {
-        let first = self.first / 8;
-        let last = self.last / 8;
-        if address < first || last < address {
-            return 0;
-        }
-        let low = if address == first { self.first % 8 } else { 0 };
-        let high = if address == last { self.last % 8 } else { 7 };
-        (0xff << low) & (0xff >> (7 - high))
+        bits_between(self.first, self.last, address)
     }
+}
+
+// The bits of the logical octet at `address` that stand from the first to the last logical bit.
+fn bits_between(first: u64, last: u64, address: u64) -> u8
+    ensures { result ≡ octet_of (λ i. nat_le first (8 * address + i) && nat_le (8 * address + i) last) }
+{
+    let front = first / 8;
+    let back = last / 8;
+    if address < front || back < address {
+        return 0;
+    }
+    let low = if address == front { first % 8 } else { 0 };
+    let high = if address == back { last % 8 } else { 7 };
+    (0xff << low) & (0xff >> (7 - high))
 }
 
 impl Entity {
