@@ -74,6 +74,9 @@ impl Script {
         ensures answers { told self.new.entries.items ≡ history (new_station (M.octets memory) (unwrap_or self.old.number 1)) (calls_of self.old.entries.items) }
         ensures after { M.octets result ≡ (runs (new_station (M.octets memory) (unwrap_or self.old.number 1)) (calls_of self.old.entries.items)).octets }
         ensures promise { Promise (length (M.octets memory)) (unwrap_or self.old.number 1) (told self.new.entries.items) }
+        ensures kind { self.new.kind ≡ self.old.kind }
+        ensures number { self.new.number ≡ self.old.number }
+        ensures items { self.new.items.items ≡ self.old.items.items }
     {
         replay(memory, self.number(), self.entries.as_mut_slice())
     }
