@@ -4,5 +4,6 @@ pub mod Datagrams
 pub mod Cursors
 pub mod Frames
 pub mod Runs
+pub mod Feeding
 pub mod Wire
 pub mod Laws

@@ -5,6 +5,7 @@
 pub mod command;
 pub mod cursor;
 pub mod datagram;
+pub mod feed;
 pub mod laws;
 pub mod outcome;
 pub mod progress;

@@ -1,6 +1,6 @@
 use Rattle.station.specs.Replies.{SameFrame}
 use Rattle.examples.specs.Driving.{given, out}
-use Rattle.examples.proofs.InPlace.{Halfway}
+use Rattle.frame.proofs.InPlace.{Halfway}
 use Rattle.examples.proofs.driver.pass.Given as given-here
 
 abbrev pub invariant-loop-octet : given-here.invariant-loop-octet
