@@ -47,6 +47,11 @@ abbrev pub written_as : Result (Unit {0}) Fault → Answer
 written_as (Ok u) = Stored
 written_as (Err f) = Refuse f
 
+-- a frame that is begun carries the station's number
+abbrev pub Minted : (number : ℕ) → Result Frame Fault → Type 0
+Minted n (Ok f) = f.number ≡ n
+Minted n (Err e) = Unit {0}
+
 -- FRAMES. The number of the frame that runs at the station, if one does: it is the station's own.
 abbrev pub frame_in : Core → Option ℕ
 frame_in c = option_map (λ f. c.number) c.running

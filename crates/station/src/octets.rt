@@ -69,7 +69,7 @@ fn also_refused<T: Drop>(so_far: Outcome<T, Fault>, fault: Fault) -> Outcome<T, 
 
 impl<M: Memory> Station<M> {
     fn read_one(&mut self, access: Access, so_far: Gathered) -> Gathered
-        ensures { reads_so self.new result ≡ read_one access (reads_so self.old so_far) (reads self.old access).after (reads self.old access).says }
+        ensures { reads_so self.new.station result ≡ read_one access (reads_so self.old.station so_far) (reads self.old.station access).after (reads self.old.station access).says }
     {
         match self.fetch(access) {
             Ok(octet) => {
@@ -93,7 +93,7 @@ impl<M: Memory> Station<M> {
         octet: u8,
         so_far: Outcome<(), Fault>,
     ) -> Outcome<(), Fault>
-        ensures { writes_so self.new result ≡ write_one (writes_so self.old so_far) (writes self.old access octet).after (writes self.old access octet).says }
+        ensures { writes_so self.new.station result ≡ write_one (writes_so self.old.station so_far) (writes self.old.station access octet).after (writes self.old.station access octet).says }
     {
         match self.store(access, octet) {
             Ok(()) => also_done(so_far, ()),
@@ -102,7 +102,7 @@ impl<M: Memory> Station<M> {
     }
 
     fn read_mapped(&mut self, list: &[mapping::mapped::Access], octet: u8) -> Gathered
-        ensures { reads_so self.new result ≡ reads_from self.old octet (map (through_mapping Reading) list.now) }
+        ensures { reads_so self.new.station result ≡ reads_from self.old.station octet (map (through_mapping Reading) list.now) }
     {
         let mut so_far = Gathered {
             gathered: 0,
@@ -116,7 +116,7 @@ impl<M: Memory> Station<M> {
     }
 
     fn write_mapped(&mut self, list: &[mapping::mapped::Access], octet: u8) -> Outcome<(), Fault>
-        ensures { writes_so self.new result ≡ writes_from self.old octet (map (through_mapping Writing) list.now) }
+        ensures { writes_so self.new.station result ≡ writes_from self.old.station octet (map (through_mapping Writing) list.now) }
     {
         let mut so_far = Outcome::NotWanted;
         for access in list {
@@ -126,7 +126,7 @@ impl<M: Memory> Station<M> {
     }
 
     pub(crate) fn read_all(&mut self, accesses: &OctetAccesses, octet: u8) -> Gathered
-        ensures { reads_so self.new result ≡ reads_from self.old octet (accesses_in Reading accesses.now) }
+        ensures { reads_so self.new.station result ≡ reads_from self.old.station octet (accesses_in Reading accesses.now) }
     {
         let none = Gathered {
             gathered: 0,
@@ -143,7 +143,7 @@ impl<M: Memory> Station<M> {
     }
 
     pub(crate) fn write_all(&mut self, accesses: &OctetAccesses, octet: u8) -> Outcome<(), Fault>
-        ensures { writes_so self.new result ≡ writes_from self.old octet (accesses_in Writing accesses.now) }
+        ensures { writes_so self.new.station result ≡ writes_from self.old.station octet (accesses_in Writing accesses.now) }
     {
         match accesses {
             OctetAccesses::Nothing => Outcome::NotWanted,

@@ -17,8 +17,8 @@ use rules::fault::{Fault, Reason};
 impl<M: Memory> Station<M> {
     // All questions before an access, in their order; the memory is asked whether it has the place.
     fn asked(&mut self, access: Access) -> Result<Target, Fault>
-        ensures value { result ≡ asked_of self.old access }
-        ensures same { self.new ≡ self.old }
+        ensures value { result ≡ asked_of self.old.station access }
+        ensures same { self.new.station ≡ self.old.station }
     {
         if !is_mappable(access) {
             return Err(refused(Reason::NotMappable, access.address));
@@ -31,7 +31,7 @@ impl<M: Memory> Station<M> {
     }
 
     fn register_octet(&self, register: Register) -> u8
-        ensures { result ≡ register_at self.now register }
+        ensures { result ≡ register_at self.now.station register }
     {
         let units = (self.memory.size() / 1024) as u8;
         let core = &self.core;
@@ -39,14 +39,14 @@ impl<M: Memory> Station<M> {
     }
 
     fn fetch_free(&mut self, place: u32) -> Result<u8, Fault>
-        ensures { reply self.new result ≡ fetch_free self.old (read_of self.old.octets place) }
+        ensures { reply self.new.station result ≡ fetch_free self.old.station (read_of self.old.station.octets place) }
     {
         Ok(self.memory.read(place)?)
     }
 
     // A part of an octet keeps its other bits.
     fn store_free(&mut self, share: Share, place: u32, octet: u8) -> Result<(), Fault>
-        ensures { reply self.new result ≡ store_free self.old share place octet (read_of self.old.octets place) }
+        ensures { reply self.new.station result ≡ store_free self.old.station share place octet (read_of self.old.station.octets place) }
     {
         let old = self.memory.read(place)?;
         self.memory.write(place, share.stored(old, octet))?;
@@ -55,7 +55,7 @@ impl<M: Memory> Station<M> {
 
     // The channel picks the buffer.
     fn fetch_in(&mut self, channel: u8, service: Service, offset: u16) -> Result<u8, Fault>
-        ensures { reply self.new result ≡ fetch_in self.old channel service offset (read_of self.old.octets (fetch_place service offset)) }
+        ensures { reply self.new.station result ≡ fetch_in self.old.station channel service offset (read_of self.old.station.octets (fetch_place service offset)) }
     {
         let octet = self.memory.read(service.fetch_place(offset))?;
         set_service(
@@ -73,7 +73,7 @@ impl<M: Memory> Station<M> {
         offset: u16,
         octet: u8,
     ) -> Result<(), Fault>
-        ensures { reply self.new result ≡ store_in self.old channel service offset octet (write_of self.old.octets (store_place service offset)) }
+        ensures { reply self.new.station result ≡ store_in self.old.station channel service offset octet (write_of self.old.station.octets (store_place service offset)) }
     {
         self.memory.write(service.store_place(offset), octet)?;
         set_service(
@@ -85,7 +85,7 @@ impl<M: Memory> Station<M> {
     }
 
     fn fetch_window(&mut self, channel: u8, offset: u16, place: u32) -> Result<u8, Fault>
-        ensures { reply self.new result ≡ fetch_window self.old channel offset place (service_at self.old.core.channels channel) }
+        ensures { reply self.new.station result ≡ fetch_window self.old.station channel offset place (service_at self.old.station.core.channels channel) }
     {
         match service_at(&self.core.channels, channel) {
             None => self.fetch_free(place),
@@ -101,7 +101,7 @@ impl<M: Memory> Station<M> {
         place: u32,
         octet: u8,
     ) -> Result<(), Fault>
-        ensures { reply self.new result ≡ store_window self.old share channel offset place octet (service_at self.old.core.channels channel) }
+        ensures { reply self.new.station result ≡ store_window self.old.station share channel offset place octet (service_at self.old.station.core.channels channel) }
     {
         match service_at(&self.core.channels, channel) {
             None => self.store_free(share, place, octet),
@@ -110,7 +110,7 @@ impl<M: Memory> Station<M> {
     }
 
     fn fetch_target(&mut self, access: Access, target: Target) -> Result<u8, Fault>
-        ensures { reply self.new result ≡ fetched self.old access (Reached target) }
+        ensures { reply self.new.station result ≡ fetched self.old.station access (Reached target) }
     {
         match target {
             Target::Register(register) => Ok(self.register_octet(register)),
@@ -123,7 +123,7 @@ impl<M: Memory> Station<M> {
 
     // A register octet that is written waits elsewhere.
     fn store_target(&mut self, access: Access, octet: u8, target: Target) -> Result<(), Fault>
-        ensures { reply self.new result ≡ stored_by self.old access octet (Reached target) }
+        ensures { reply self.new.station result ≡ stored_by self.old.station access octet (Reached target) }
     {
         match target {
             Target::Register(_) => Ok(()),
@@ -137,7 +137,7 @@ impl<M: Memory> Station<M> {
 
     // A read.
     pub(crate) fn fetch(&mut self, access: Access) -> Result<u8, Fault>
-        ensures { reply self.new result ≡ reads self.old access }
+        ensures { reply self.new.station result ≡ reads self.old.station access }
     {
         let target = self.asked(access)?;
         self.fetch_target(access, target)
@@ -145,7 +145,7 @@ impl<M: Memory> Station<M> {
 
     // A write.
     pub(crate) fn store(&mut self, access: Access, octet: u8) -> Result<(), Fault>
-        ensures { reply self.new result ≡ writes self.old access octet }
+        ensures { reply self.new.station result ≡ writes self.old.station access octet }
     {
         let reached = self.asked(access)?;
         self.store_target(access, octet, reached)

@@ -80,8 +80,8 @@ fn write_told(answer: Result<(), Fault>) -> Answer
 impl<M: Memory> Station<M> {
     // An octet of a frame that carries this number.
     fn octet_of(&mut self, number: u16, octet: u8) -> Answer
-        ensures after { self.new ≡ (step self.old (OctetCall number octet)).0 }
-        ensures answer { result ≡ (step self.old (OctetCall number octet)).1 }
+        ensures after { self.new.station ≡ (step self.old.station (OctetCall number octet)).0 }
+        ensures answer { result ≡ (step self.old.station (OctetCall number octet)).1 }
     {
         let frame = Frame { number };
         let answer = self.octet(&frame, octet);
@@ -90,16 +90,16 @@ impl<M: Memory> Station<M> {
     }
 
     fn end_of_number(&mut self, number: u16, verdict: Verdict) -> Answer
-        ensures after { self.new ≡ (step self.old (EndCall number verdict)).0 }
-        ensures answer { result ≡ (step self.old (EndCall number verdict)).1 }
+        ensures after { self.new.station ≡ (step self.old.station (EndCall number verdict)).0 }
+        ensures answer { result ≡ (step self.old.station (EndCall number verdict)).1 }
     {
         end_told(self.end(Frame { number }, verdict))
     }
 
     // One call of a script.
     fn perform(&mut self, call: Call) -> Answer
-        ensures after { self.new ≡ (step self.old call).0 }
-        ensures answer { result ≡ (step self.old call).1 }
+        ensures after { self.new.station ≡ (step self.old.station call).0 }
+        ensures answer { result ≡ (step self.old.station call).1 }
     {
         match call {
             Call::Begin => begin_told(self.begin()),
@@ -111,8 +111,8 @@ impl<M: Memory> Station<M> {
     }
 
     fn run(&mut self, script: &mut [Entry])
-        ensures answers { told script.new ≡ history self.old (calls_of script.old) }
-        ensures after { self.new ≡ runs self.old (calls_of script.old) }
+        ensures answers { told script.new ≡ history self.old.station (calls_of script.old) }
+        ensures after { self.new.station ≡ runs self.old.station (calls_of script.old) }
     {
         for i in 0..script.len() {
             let call = script[i].call;

@@ -6,7 +6,7 @@ ghost use Rattle.access.specs.declared.Direction.TheVariants.{Write as Writing};
 ghost use Rattle.rules.specs.declared.data.Call.TheVariants.{Begin as BeginCall, Octet as OctetCall, End as EndCall, Read as ReadCall, Write as WriteCall};
 ghost use Rattle.rules.specs.declared.data.Answer.TheVariants.{Kept as Keeps};
 ghost use Rattle.rules.specs.Steps.{over, with_running, with_channels, dropped_channel, octet_answer, octet_given, kept_channels, kept_station, end_of, step};
-ghost use Rattle.station.specs.Replies.{begun_as, octet_as, ended_as, read_as, written_as, Begun, SameFrame, Same, Spent};
+ghost use Rattle.station.specs.Replies.{begun_as, octet_as, ended_as, read_as, written_as, Minted, Begun, SameFrame, Same, Spent};
 
 use crate::calls::Station;
 use crate::octets::plain;
@@ -42,9 +42,10 @@ fn octet_answer(
 impl<M: Memory> Station<M> {
     // A frame begins, unless one runs.
     pub(crate) fn begin_frame(&mut self) -> Result<Frame, Fault>
-        ensures after { self.new ≡ (step self.old BeginCall).0 }
-        ensures answer { begun_as result ≡ (step self.old BeginCall).1 }
-        ensures runs { Begun self.new.core result }
+        ensures after { self.new.station ≡ (step self.old.station BeginCall).0 }
+        ensures answer { begun_as result ≡ (step self.old.station BeginCall).1 }
+        ensures minted { Minted self.old.station.core.number result }
+        ensures runs { Begun self.new.station.core result }
     {
         match self.core.running {
             Some(_) => Err(refused(Reason::FrameRuns, 0)),
@@ -59,9 +60,9 @@ impl<M: Memory> Station<M> {
 
     // The local side reads an octet.
     pub(crate) fn read_local(&mut self, address: u32) -> Result<u8, Fault>
-        ensures after { self.new ≡ (step self.old (ReadCall address)).0 }
-        ensures answer { read_as result ≡ (step self.old (ReadCall address)).1 }
-        ensures frame { SameFrame self.old self.new }
+        ensures after { self.new.station ≡ (step self.old.station (ReadCall address)).0 }
+        ensures answer { read_as result ≡ (step self.old.station (ReadCall address)).1 }
+        ensures frame { SameFrame self.old.station self.new.station }
     {
         let octet = self.fetch(plain(Side::Local, Direction::Read, address))?;
         Ok(octet)
@@ -69,9 +70,9 @@ impl<M: Memory> Station<M> {
 
     // The local side writes an octet; into the alias it holds at once.
     pub(crate) fn write_local(&mut self, address: u32, octet: u8) -> Result<(), Fault>
-        ensures after { self.new ≡ (step self.old (WriteCall address octet)).0 }
-        ensures answer { written_as result ≡ (step self.old (WriteCall address octet)).1 }
-        ensures frame { SameFrame self.old self.new }
+        ensures after { self.new.station ≡ (step self.old.station (WriteCall address octet)).0 }
+        ensures answer { written_as result ≡ (step self.old.station (WriteCall address octet)).1 }
+        ensures frame { SameFrame self.old.station self.new.station }
     {
         self.store(plain(Side::Local, Direction::Write, address), octet)?;
         self.core.alias = with_alias(self.core.alias, register_at(address), octet);
@@ -87,7 +88,7 @@ impl<M: Memory> Station<M> {
         writes: &OctetAccesses,
         accessed: Accessed<Fault>,
     ) -> Result<OctetAnswer, Fault>
-        ensures after { self.new ≡ over (with_running self.old.core (Runs (stepped_running running octet addresses (accesses_in Writing writes.now) accessed.read accessed.write))) self.old.octets }
+        ensures after { self.new.station ≡ over (with_running self.old.station.core (Runs (stepped_running running octet addresses (accesses_in Writing writes.now) accessed.read accessed.write))) self.old.station.octets }
         ensures answer { octet_as result ≡ octet_answer accessed.read accessed.write (answered running.progress octet accessed.laid) }
     {
         let mut next = running;
@@ -98,8 +99,8 @@ impl<M: Memory> Station<M> {
 
     // Read, then write, then the frame moves on.
     fn octet_given(&mut self, running: Running, octet: u8) -> Result<OctetAnswer, Fault>
-        ensures after { self.new ≡ (octet_given self.old running octet).0 }
-        ensures answer { octet_as result ≡ (octet_given self.old running octet).1 }
+        ensures after { self.new.station ≡ (octet_given self.old.station running octet).0 }
+        ensures answer { octet_as result ≡ (octet_given self.old.station running octet).1 }
     {
         let wanted = running.progress.wanted();
         let addresses = Addresses {
@@ -120,8 +121,8 @@ impl<M: Memory> Station<M> {
 
     // The next octet of a frame.
     pub(crate) fn octet_of_frame(&mut self, frame: &Frame, octet: u8) -> Result<OctetAnswer, Fault>
-        ensures after { self.new ≡ (step self.old (OctetCall frame.now.number octet)).0 }
-        ensures answer { octet_as result ≡ (step self.old (OctetCall frame.now.number octet)).1 }
+        ensures after { self.new.station ≡ (step self.old.station (OctetCall frame.now.number octet)).0 }
+        ensures answer { octet_as result ≡ (step self.old.station (OctetCall frame.now.number octet)).1 }
     {
         match mine(self.core.number, frame.number, self.core.running) {
             None => Err(refused(Reason::NoSuchFrame, 0)),
@@ -131,7 +132,7 @@ impl<M: Memory> Station<M> {
 
     // What the frame accessed is cancelled.
     fn cancel(&mut self)
-        ensures { self.new ≡ over (with_running (with_channels self.old.core (map dropped_channel self.old.core.channels)) NoFrame) self.old.octets }
+        ensures { self.new.station ≡ over (with_running (with_channels self.old.station.core (map dropped_channel self.old.station.core.channels)) NoFrame) self.old.station.octets }
     {
         let channels = dropped_channels(&self.core.channels);
         self.core.channels = channels;
@@ -140,8 +141,8 @@ impl<M: Memory> Station<M> {
 
     // In order: waiting transactions complete, waiting registers are set, services end, enablings are judged. The lowest refused enabling.
     fn keep(&mut self, registers: Registers) -> Option<Fault>
-        ensures after { self.new ≡ (kept_station self.old registers (kept_channels (length self.old.octets) registers self.old.core.channels)).0 }
-        ensures answer { Keeps result ≡ (kept_station self.old registers (kept_channels (length self.old.octets) registers self.old.core.channels)).1 }
+        ensures after { self.new.station ≡ (kept_station self.old.station registers (kept_channels (length self.old.station.octets) registers self.old.station.core.channels)).0 }
+        ensures answer { Keeps result ≡ (kept_station self.old.station registers (kept_channels (length self.old.station.octets) registers self.old.station.core.channels)).1 }
     {
         let Enabling {
             channels,
@@ -164,8 +165,8 @@ impl<M: Memory> Station<M> {
     }
 
     fn end_of(&mut self, running: Running, verdict: Verdict) -> Result<Option<Fault>, EndRefusal>
-        ensures after { self.new ≡ (end_of self.old running (kept running.progress verdict)).0 }
-        ensures answer { ended_as result ≡ (end_of self.old running (kept running.progress verdict)).1 }
+        ensures after { self.new.station ≡ (end_of self.old.station running (kept running.progress verdict)).0 }
+        ensures answer { ended_as result ≡ (end_of self.old.station running (kept running.progress verdict)).1 }
         ensures spent { Spent result }
     {
         match running.progress.end(verdict) {
@@ -183,8 +184,8 @@ impl<M: Memory> Station<M> {
         frame: Frame,
         verdict: Verdict,
     ) -> Result<Option<Fault>, EndRefusal>
-        ensures after { self.new ≡ (step self.old (EndCall frame.number verdict)).0 }
-        ensures answer { ended_as result ≡ (step self.old (EndCall frame.number verdict)).1 }
+        ensures after { self.new.station ≡ (step self.old.station (EndCall frame.number verdict)).0 }
+        ensures answer { ended_as result ≡ (step self.old.station (EndCall frame.number verdict)).1 }
         ensures back { Same frame result }
     {
         let handed = frame.number;

@@ -26,13 +26,16 @@ pub enum EndRefusal {
 }
 
 impl EndRefusal {
-    // The refusal as a fault. A frame that was handed back stays owed: end it at its station.
-    pub fn fault(&self) -> Fault
-        ensures { result ≡ end_fault self.now }
+    // The refusal as a fault. A frame that was handed back is let go with it: if its station still stands, end it there instead.
+    pub fn fault(self) -> Fault
+        ensures { result ≡ end_fault self }
     {
         match self {
-            EndRefusal::NotThisFrame(_) => refused(Reason::NoSuchFrame, 0),
-            EndRefusal::Dropped(fault) => *fault,
+            EndRefusal::NotThisFrame(frame) => {
+                let Frame { number: _ } = frame;
+                refused(Reason::NoSuchFrame, 0)
+            }
+            EndRefusal::Dropped(fault) => fault,
         }
     }
 }

@@ -1,5 +1,5 @@
 use Rattle.std.proofs.Common.{ap, ◌∙◌}
-use Rattle.rules.specs.Steps.{Station}
+use Rattle.station.specs.Seen.{Seen}
 use Rattle.station.specs.Replies.{frame_in}
 use Rattle.station.proofs.Frames.{store_same}
 use Rattle.station.proofs.calls.Station.write_local.Goals as goal
@@ -11,6 +11,6 @@ pub returns-clause-frame : goal.returns-clause-frame
 returns-clause-frame g c =
     record {
       runs =
-          ap (λ (s : Station). frame_in s.core) c.self.view_is
-          ∙ (store_same c.args.self.now c.store.new.self c.plain.result c.args.octet _ c.store.ensures).runs;
+          ap (λ (s : Seen _). frame_in s.station.core) c.self.view_is
+          ∙ (store_same c.args.self.now.station c.store.new.self.station c.plain.result c.args.octet _ c.store.ensures).runs;
     }

@@ -8,5 +8,5 @@ use Rattle.station.proofs.calls.Station.write_mapped.Given as goal
 -- what is left gives the answer of the whole
 abbrev pub invariant-loop-access : goal.invariant-loop-access
 invariant-loop-access g l =
-    write_all (writes_so l.self l.so_far) l.octet (map (through_mapping Write) (drop l.access-index l.list))
-    ≡ write_all (writes_so l.initial.self l.initial.so_far) l.octet (map (through_mapping Write) l.list)
+    write_all (writes_so l.self.station l.so_far) l.octet (map (through_mapping Write) (drop l.access-index l.list))
+    ≡ write_all (writes_so l.initial.self.station l.initial.so_far) l.octet (map (through_mapping Write) l.list)
