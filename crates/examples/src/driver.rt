@@ -20,18 +20,18 @@ fn forwarded(answer: Result<OctetAnswer, Fault>, octet: u8) -> u8
 
 // Gives the station one octet: the one that goes out.
 fn pass_one<M: Memory>(station: &mut Station<M>, frame: &Frame, octet: u8) -> u8
-    ensures after { station.new ≡ given frame.now.number station.old octet }
-    ensures leaves { result ≡ out frame.now.number station.old octet }
-    ensures frame { SameFrame station.old station.new }
+    ensures after { station.new.station ≡ given frame.now.number station.old.station octet }
+    ensures leaves { result ≡ out frame.now.number station.old.station octet }
+    ensures frame { SameFrame station.old.station station.new.station }
 {
     forwarded(station.octet(frame, octet), octet)
 }
 
 // Gives the station the octets of a frame one by one, and leaves in their place those that go out.
 fn pass<M: Memory>(station: &mut Station<M>, frame: &Frame, octets: &mut [u8])
-    ensures after { station.new ≡ given_all frame.now.number station.old octets.old }
-    ensures leaves { octets.new ≡ out_all frame.now.number station.old octets.old }
-    ensures frame { SameFrame station.old station.new }
+    ensures after { station.new.station ≡ given_all frame.now.number station.old.station octets.old }
+    ensures leaves { octets.new ≡ out_all frame.now.number station.old.station octets.old }
+    ensures frame { SameFrame station.old.station station.new.station }
 {
     for octet in octets.iter_mut() {
         *octet = pass_one(station, frame, *octet);
@@ -45,9 +45,9 @@ pub fn transmit<M: Memory>(
     octets: &mut [u8],
     verdict: Verdict,
 ) -> Result<Option<Fault>, Fault>
-    ensures after { station.new ≡ transmitted station.old octets.old verdict (frame_in station.old.core) }
-    ensures answer { transmitted_as (frame_in station.old.core) result ≡ transmitted_answer station.old octets.old verdict (frame_in station.old.core) }
-    ensures leaves { octets.new ≡ transmitted_out station.old octets.old (frame_in station.old.core) }
+    ensures after { station.new.station ≡ transmitted station.old.station octets.old verdict (frame_in station.old.station.core) }
+    ensures answer { transmitted_as (frame_in station.old.station.core) result ≡ transmitted_answer station.old.station octets.old verdict (frame_in station.old.station.core) }
+    ensures leaves { octets.new ≡ transmitted_out station.old.station octets.old (frame_in station.old.station.core) }
 {
     let frame = station.begin()?;
     pass(station, &frame, octets);

@@ -9,6 +9,7 @@ pub fn worked_frames()
 mod tests {
     use frame::command::Addresses;
     use frame::datagram::{Place, Wanted};
+    use frame::feed::frame_feed;
     use frame::outcome::{Accessed, Outcome};
     use frame::progress::{Progress, Reason, Verdict};
     use std::process::Abort;
@@ -28,28 +29,7 @@ mod tests {
         ]
     }
 
-    fn done_if<T: Drop>(wanted: bool, value: T) -> Outcome<T, ()> {
-        if wanted {
-            Outcome::Done(value)
-        } else {
-            Outcome::NotWanted
-        }
-    }
-
-    // One octet, over a memory that does every access and holds 0x5a everywhere.
-    fn fed(progress: &mut Progress, octet: u8) -> u8 {
-        let accessed = match progress.wanted() {
-            Some(wanted) => Accessed::whole(
-                octet,
-                done_if(wanted.read, 0x5a),
-                done_if(wanted.write, ()),
-            ),
-            None => Accessed::whole(octet, Outcome::NotWanted, Outcome::NotWanted),
-        };
-        progress.octet(octet, ADDRESSES, &accessed).unwrap_or(octet)
-    }
-
-    // Over such a memory: ADP as it leaves, the data octets, and what the counter gained.
+    // Over a memory that holds 0x5a everywhere: ADP as it leaves, the data octets, and what the counter gained.
     fn leaves(
         rt: &impl Abort,
         command: u8,
@@ -59,10 +39,7 @@ mod tests {
         gains: u16,
     ) -> Result<(), Fail> {
         let mut octets = frame_of(command, adp, 0x1000);
-        let mut progress = Progress::begin();
-        for octet in octets.iter_mut() {
-            *octet = fed(&mut progress, *octet);
-        }
+        frame_feed(&mut octets, ADDRESSES.station, ADDRESSES.alias, 0x5a);
         let mut expected = frame_of(command, out, 0x1000);
         let [low, high] = 0xffffu16.wrapping_add(gains).to_le_bytes();
         expected[12] = data;

@@ -3,6 +3,7 @@
 
 mod channel_cases;
 pub mod driver;
+mod driver_cases;
 pub mod frame_cases;
 mod mapping_cases;
 mod memory_cases;

@@ -1,20 +1,49 @@
-// The station under a driver: a buffered channel, a dropped frame, a frame handed to another station.
-ghost use Rattle.std.specs.Prelude.{◌≡◌, Some};
-ghost use Rattle.station.specs.Replies.{frame_in};
-
+// The station: a buffered channel, a dropped frame, a frame of another station.
 #[cfg(test)]
 mod tests {
-    use crate::driver::transmit;
     use frame::progress::Verdict;
     use memory::Memory;
     use memory::row::Row;
     use rules::fault::Fault;
-    use station::{EndRefusal, Frame, Station};
+    use station::{Frame, Station};
 
     // Start 0x1000, four octets, buffered, the master stores, enabled.
     const STORING: [u8; 8] = [0x00, 0x10, 4, 0, 0x04, 0, 1, 0];
 
-    // A frame with one datagram APWR for the first station: the refusal's number, 0 if it is kept and no enabling refused.
+    fn feed<M: Memory>(station: &mut Station<M>, frame: &Frame, octets: &[u8]) {
+        for octet in octets {
+            let _ = station.octet(frame, *octet);
+        }
+    }
+
+    // One datagram APWR for the first station, up to its counter.
+    fn write_to<M: Memory>(
+        station: &mut Station<M>,
+        frame: &Frame,
+        ado: u16,
+        data: &[u8; 8],
+        length: u8,
+    ) {
+        let [low, high] = ado.to_le_bytes();
+        let count = length.min(8);
+        feed(
+            station,
+            frame,
+            &[12 + count, 0x10, 2, 0, 0, 0, low, high, count, 0, 0, 0],
+        );
+        feed(station, frame, &data[0..count as usize]);
+        feed(station, frame, &[0, 0]);
+    }
+
+    // The refusal's number, 0 if the frame is kept and no enabling refused.
+    fn ended<M: Memory>(station: &mut Station<M>, frame: Frame, verdict: Verdict) -> u8 {
+        match station.end(frame, verdict) {
+            Ok(None) => 0,
+            Ok(Some(fault)) => fault.number(),
+            Err(refusal) => refusal.fault().number(),
+        }
+    }
+
     fn sent<M: Memory>(
         station: &mut Station<M>,
         ado: u16,
@@ -22,60 +51,12 @@ mod tests {
         length: u8,
         verdict: Verdict,
     ) -> u8 {
-        let [low, high] = ado.to_le_bytes();
-        let count = length.min(8);
-        let [a, b, c, d, e, f, g, h] = *data;
-        let mut octets = [
-            12 + count,
-            0x10,
-            2,
-            0,
-            0,
-            0,
-            low,
-            high,
-            count,
-            0,
-            0,
-            0,
-            a,
-            b,
-            c,
-            d,
-            e,
-            f,
-            g,
-            h,
-            0,
-            0,
-        ];
-        match transmit(station, &mut octets[0..14 + count as usize], verdict) {
-            Ok(None) => 0,
-            Ok(Some(fault)) => fault.number(),
+        match station.begin() {
             Err(fault) => fault.number(),
-        }
-    }
-
-    // Ends the frame that runs: the refusal's number, 0 if it is kept. It runs here, so it is not handed back.
-    fn ended<M: Memory>(station: &mut Station<M>, frame: Frame, verdict: Verdict) -> u8
-        requires { frame_in station.old.core ≡ Some frame.number }
-    {
-        match station.end(frame, verdict) {
-            Ok(_) => 0,
-            Err(EndRefusal::Dropped(fault)) => fault.number(),
-            Err(EndRefusal::NotThisFrame(_frame)) => unreachable(),
-        }
-    }
-
-    // A frame that is handed to the wrong station comes back, and is ended at its own.
-    fn astray<M: Memory, O: Memory>(wrong: &mut Station<M>, own: &mut Station<O>) -> (u8, u8) {
-        match own.begin() {
-            Err(fault) => (0, fault.number()),
-            Ok(frame) => match wrong.end(frame, Verdict::Good) {
-                Err(EndRefusal::NotThisFrame(frame)) => (15, ended(own, frame, Verdict::Bad)),
-                Err(EndRefusal::Dropped(fault)) => (fault.number(), 0),
-                Ok(_) => (0, 0),
-            },
+            Ok(frame) => {
+                write_to(station, &frame, ado, data, length);
+                ended(station, frame, verdict)
+            }
         }
     }
 
@@ -116,9 +97,12 @@ mod tests {
         let mut others = [0u8; 16];
         let mut station = Station::new(Row::new(&mut cells), 7);
         let mut other = Station::new(Row::new(&mut others), 8);
-        let handed = astray(&mut station, &mut other);
+        let handed = match other.begin() {
+            Ok(frame) => ended(&mut station, frame, Verdict::Good),
+            Err(fault) => fault.number(),
+        };
         let _ = station.into_memory();
         let _ = other.into_memory();
-        assert!(rt; handed == (15, 17));
+        assert!(rt; handed == 15);
     }
 }
