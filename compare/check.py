@@ -1,28 +1,37 @@
 #!/usr/bin/env python3
 """check.py [PROGRAM ..]: runs the cases through a program (without one: station.py).
 
-A case is a script of crates/console/data. Most have statements written by hand from the rules: a
+A case is a script of crates/cases/data. Most have statements written by hand from the rules: a
 line '#> TEXT' states what the last line printed for the call above it is, '#> .. TEXT' what it
-ends with.
+ends with. The whole output of a case stands in crates/cases/stdout, below the line 'script NAME'.
+Both are compared.
 """
 
 import glob
 import os
+import re
 import subprocess
 import sys
 
 HERE = os.path.dirname(os.path.abspath(__file__))
+CASES = os.path.join(os.path.dirname(HERE), "crates", "cases")
 
 
 def cases():
     """The paths of all cases."""
-    return sorted(glob.glob(os.path.join(os.path.dirname(HERE), "crates", "console", "data", "*.txt")))
+    return sorted(glob.glob(os.path.join(CASES, "data", "*.txt")))
 
 
 def contents(path):
     """What stands in a file."""
     with open(path) as file:
         return file.read()
+
+
+def expected_outputs():
+    """What must be printed for each case, by its file's name."""
+    parts = re.split(r"(?m)^script (.+)\n", contents(os.path.join(CASES, "stdout")))
+    return dict(zip(parts[1::2], parts[2::2]))
 
 
 def printed_lines(words, next_line, number):
@@ -54,6 +63,8 @@ def faults_of(path, output):
     all_statements = list(statements(contents(path), output.splitlines()))
     faults = ["line %d: stated '%s', printed '%s'" % statement
               for statement in all_statements if not holds(*statement[1:])]
+    if expected_outputs().get(os.path.basename(path)) != output:
+        faults.append("the output is not the expected one")
     return faults, len(all_statements)
 
 

@@ -1,11 +1,13 @@
 #!/usr/bin/env python3
-"""expected.py: prints what the console must print in the gate, by the other implementation.
+"""expected.py: prints what the program `cases` must print in the gate, by the other implementation.
 
-The gate runs the console with the arguments in crates/console/args: its default task on standard
-input (-) and the scripts of crates/console/data, and compares what it prints with the file
-crates/console/stdout. That file is made here, by station.py and not by the console:
+The gate runs it with the arguments in crates/cases/args, the scripts of crates/cases/data, and
+compares what it prints with the file crates/cases/stdout. That file is made here, by station.py
+and not by the program:
 
-    compare/expected.py >crates/console/stdout
+    compare/expected.py >crates/cases/stdout
+
+The console's default task, crates/console/stdin, has its own: `expected.py task >crates/console/stdout`.
 """
 
 import io
@@ -13,7 +15,7 @@ import os
 import sys
 
 HERE = os.path.dirname(os.path.abspath(__file__))
-CONSOLE = os.path.join(os.path.dirname(HERE), "crates", "console")
+CRATES = os.path.join(os.path.dirname(HERE), "crates")
 sys.path.insert(0, HERE)
 sys.dont_write_bytecode = True
 
@@ -21,8 +23,8 @@ import station      # noqa: E402
 
 
 def contents(*path):
-    """What stands in a file of the crate."""
-    with open(os.path.join(CONSOLE, *path)) as file:
+    """What stands in a file of the crates."""
+    with open(os.path.join(CRATES, *path)) as file:
         return file.read()
 
 
@@ -33,11 +35,16 @@ def answers(text):
     return out.getvalue()
 
 
+def task():
+    """What the console must print for its default task."""
+    return answers(contents("console", "stdin"))
+
+
 def expected():
-    """The whole output: each script under its name."""
-    return "".join("script %s\n%s" % (name, answers(contents("stdin") if name == "-" else contents("data", name)))
-                   for name in contents("args").split())
+    """What the cases must print: each script under its name."""
+    return "".join("script %s\n%s" % (name, answers(contents("cases", "data", name)))
+                   for name in contents("cases", "args").split())
 
 
 if __name__ == "__main__":
-    sys.stdout.write(expected())
+    sys.stdout.write(task() if sys.argv[1:] == ["task"] else expected())

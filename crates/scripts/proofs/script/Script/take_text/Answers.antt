@@ -2,9 +2,9 @@ use Rattle.std.proofs.Common.{◌≡◌, ℕ, cond, List, ap, ◌∙◌}
 use Rattle.std.specs.Str.{IsUtf8, is_utf8}
 use Rattle.std.proofs.lemmas.Bool.{false_from_ne_true}
 use Rattle.std.proofs.lemmas.Str.{is_utf8-from_IsUtf8, IsUtf8-from_is_utf8}
-use Rattle.console.specs.Text.{words_of, texts_of}
-use Rattle.console.specs.Scripts.{Held, held, refused, with_words, with_text}
-use Rattle.console.proofs.script.Script.take_text.Goals as goal
+use Rattle.scripts.specs.Text.{words_of, texts_of}
+use Rattle.scripts.specs.Scripts.{Held, held, refused, with_words, with_text}
+use Rattle.scripts.proofs.script.Script.take_text.Goals as goal
 
 module _ (line : List ℕ) (n : ℕ) (h : Held) where
   of_text : IsUtf8 line → with_text line n h ≡ with_words (words_of line) n h

@@ -2,8 +2,8 @@ use Rattle.std.proofs.Common.{ℕ, List, Bor, is_some, rules, tests}
 use Rattle.std.proofs.lemmas.List.Folds.{list_all-map}
 use Rattle.std.proofs.lemmas.Iterator.{YieldsList-from_slice}
 use Rattle.std.proofs.lemmas.Iterator.Search.{all_from_yields_List}
-use Rattle.console.specs.Numerals.{octet_of}
-use Rattle.console.proofs.script.all_octets.Goals as goal
+use Rattle.scripts.specs.Numerals.{octet_of}
+use Rattle.scripts.proofs.script.all_octets.Goals as goal
 
 pub returns : goal.returns
 returns c =

@@ -5,15 +5,15 @@ use Rattle.std.specs.Str.{is_utf8}
 use Rattle.rules.specs.declared.data.Call.{Call}
 use Rattle.rules.specs.declared.data.Call.TheVariants.{Octet}
 use Rattle.station.specs.Scripts.{calls_of}
-use Rattle.console.specs.Numerals.{octet_of}
-use Rattle.console.specs.Text.{words_of}
-use Rattle.console.specs.Lines.{line_said}
-use Rattle.console.specs.declared.line.Kind.{Kind}
-use Rattle.console.specs.declared.line.Line.{Line}
-use Rattle.console.specs.declared.line.Line.TheVariants.{Memory, Station, Call as ACall, Octets}
-use Rattle.console.specs.declared.script.Item.{Item}
-use Rattle.console.specs.declared.script.Item.TheVariants.{Call as Told, Unreadable}
-use Rattle.console.specs.declared.script.Script.{Script}
+use Rattle.scripts.specs.Numerals.{octet_of}
+use Rattle.scripts.specs.Text.{words_of}
+use Rattle.scripts.specs.Lines.{line_said}
+use Rattle.scripts.specs.declared.line.Kind.{Kind}
+use Rattle.scripts.specs.declared.line.Line.{Line}
+use Rattle.scripts.specs.declared.line.Line.TheVariants.{Memory, Station, Call as ACall, Octets}
+use Rattle.scripts.specs.declared.script.Item.{Item}
+use Rattle.scripts.specs.declared.script.Item.TheVariants.{Call as Told, Unreadable}
+use Rattle.scripts.specs.declared.script.Script.{Script}
 
 -- the set-up, the calls so far, and what has a line of output
 pub record Held : Type 0 where

@@ -1,7 +1,7 @@
 use Rattle.std.proofs.Common.{◌≡◌, drop}
-use Rattle.console.specs.Text.{texts_of}
-use Rattle.console.specs.Scripts.{held, with_calls, octet_calls, GoesOn}
-use Rattle.console.proofs.script.Script.take_octets.Given as goal
+use Rattle.scripts.specs.Text.{texts_of}
+use Rattle.scripts.specs.Scripts.{held, with_calls, octet_calls, GoesOn}
+use Rattle.scripts.proofs.script.Script.take_octets.Given as goal
 
 -- what is left gives the script of the whole, and nothing is lost
 abbrev pub invariant-loop-word : goal.invariant-loop-word

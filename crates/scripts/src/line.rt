@@ -1,7 +1,7 @@
 // What a line of a script says.
 ghost use Rattle.std.specs.Prelude.{◌≡◌, IfOk};
-ghost use Rattle.console.specs.Text.{words_of, texts_of};
-ghost use Rattle.console.specs.Lines.{verdict_named, frame_named, octet_said, end_said, read_said, write_said, call_named, memory_named, station_said, said_of, line_said};
+ghost use Rattle.scripts.specs.Text.{words_of, texts_of};
+ghost use Rattle.scripts.specs.Lines.{verdict_named, frame_named, octet_said, end_said, read_said, write_said, call_named, memory_named, station_said, said_of, line_said};
 
 use crate::words::{number, octet, short};
 use frame::progress::Verdict;

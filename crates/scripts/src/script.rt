@@ -1,13 +1,13 @@
 // A whole script: the set-up, the calls in order, and which lines cannot be read.
 ghost use Rattle.std.specs.Prelude.{◌≡◌, [], ◌∷◌, length, OnOk, OnErr, is_some};
 ghost use Rattle.std.specs.List.{list_all};
-ghost use Rattle.console.specs.Numerals.{octet_of};
+ghost use Rattle.scripts.specs.Numerals.{octet_of};
 ghost use Rattle.std.specs.Option.{unwrap_or};
 ghost use Rattle.rules.specs.Steps.{station as new_station, runs, history};
 ghost use Rattle.rules.specs.Promise.{Promise};
 ghost use Rattle.station.specs.Scripts.{calls_of, told};
-ghost use Rattle.console.specs.Text.{texts_of};
-ghost use Rattle.console.specs.Scripts.{held, nothing, refused, with_calls, with_memory, with_number, are_octets, with_octets, with_words, with_text, with_line, GoesOn};
+ghost use Rattle.scripts.specs.Text.{texts_of};
+ghost use Rattle.scripts.specs.Scripts.{held, nothing, refused, with_calls, with_memory, with_number, are_octets, with_octets, with_words, with_text, with_line, GoesOn};
 
 use crate::line::{Kind, Line, line_of, words_of};
 use crate::words::octet;

@@ -1,6 +1,6 @@
 // Numbers and octets as a script spells them.
 ghost use Rattle.std.specs.Prelude.{◌≡◌, ◌≤◌};
-ghost use Rattle.console.specs.Numerals.{digit_of, value_from, numeral_of, number_of, below, octet_of};
+ghost use Rattle.scripts.specs.Numerals.{digit_of, value_from, numeral_of, number_of, below, octet_of};
 
 fn digit(byte: u8, radix: u32) -> Option<u32>
     requires { (2 ≤ radix) × (radix ≤ 16) }

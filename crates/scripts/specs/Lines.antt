@@ -4,11 +4,11 @@ use Rattle.frame.specs.declared.progress.Verdict.{Verdict}
 use Rattle.frame.specs.declared.progress.Verdict.TheVariants.{Good, Bad}
 use Rattle.rules.specs.declared.data.Call.{Call}
 use Rattle.rules.specs.declared.data.Call.TheVariants.{Begin, Octet, End, Read, Write}
-use Rattle.console.specs.Numerals.{number_of, below, octet_of}
-use Rattle.console.specs.declared.line.Kind.{Kind}
-use Rattle.console.specs.declared.line.Kind.TheVariants.{Octets, Words, Joined}
-use Rattle.console.specs.declared.line.Line.{Line}
-use Rattle.console.specs.declared.line.Line.TheVariants.{Memory, Station, Call as ACall, Octets as OctetCalls}
+use Rattle.scripts.specs.Numerals.{number_of, below, octet_of}
+use Rattle.scripts.specs.declared.line.Kind.{Kind}
+use Rattle.scripts.specs.declared.line.Kind.TheVariants.{Octets, Words, Joined}
+use Rattle.scripts.specs.declared.line.Line.{Line}
+use Rattle.scripts.specs.declared.line.Line.TheVariants.{Memory, Station, Call as ACall, Octets as OctetCalls}
 
 -- a number of 16 bits
 abbrev pub short_of : List ℕ → Option ℕ

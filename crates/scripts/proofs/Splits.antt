@@ -10,7 +10,7 @@ use Rattle.std.proofs.lemmas.Bool.{not-false}
 use Rattle.std.proofs.lemmas.Bool.Decides.{nat_tests}
 use Rattle.std.proofs.lemmas.Str.{chars-encodes, encodes_same, cons_from_encodes, encode_same, length-encode, len_utf8_bounds}
 use Rattle.std.proofs.lemmas.Iterator.{IsCollectResult}
-use Rattle.console.specs.Text.{word_before, words_after, words_of, texts_of}
+use Rattle.scripts.specs.Text.{word_before, words_after, words_of, texts_of}
 
 -- white space before a word is passed over
 after_gap : (gap cs : List ℕ) → NonePass is_not_whitespace gap → words_after [] (gap ++ cs) ≡ words_after [] cs
