@@ -1,0 +1,3 @@
+mod Channels
+mod Stations
+mod Small

@@ -1,0 +1,5 @@
+pub mod Channel
+pub mod Station
+pub mod Calls
+pub mod Search
+pub mod Shown
