@@ -91,10 +91,7 @@ NAMES = dict(
     """.split()
 )
 # Names that had landed and that the commit of the run no longer had, by the same rule: what came back of them later is spelled so.
-NAMES |= dict(
-    pair.split(":")
-    for pair in "begunStation:begun_station doneIf:done_if fedNext:fed_next fedOctet:fed_octet shownOctet:shown_octet".split()
-)
+NAMES |= dict(pair.split(":") for pair in "doneIf:done_if fedNext:fed_next fedOctet:fed_octet shownOctet:shown_octet".split())
 WORD = re.compile(r"[A-Za-z_][\w'\u2032-]*")
 
 

@@ -141,7 +141,8 @@ fn run(rt: &HostRuntime, out: &mut impl Write) -> anyhow::Result<()> {
     Ok(())
 }
 
-// Plays what the program's arguments ask for, and leaves nothing unprinted.
+// Plays what the program's arguments ask for, and leaves nothing unprinted. What files and handles give and take no contract can say, so there is
+// none here: what each line means, what a script holds and what playing it answers is promised by the functions that this calls.
 pub fn play_arguments(rt: &HostRuntime) -> anyhow::Result<()> {
     let mut out = BufWriter::new(rt.alloc(), rt.stdout())?;
     let played = run(rt, &mut out);

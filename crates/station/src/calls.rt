@@ -1,7 +1,7 @@
 // The station: its five calls over any memory. Each steps as the rules say and carries the promise about messages: whatever list of calls led
 // from a new station to this one, after the call the station is that run plus one call, and the promise holds of the longer history, with this
 // call's answer.
-ghost use Rattle.std.specs.Prelude.{◌≡◌};
+ghost use Rattle.std.specs.Prelude.{◌≡◌, length};
 ghost use Rattle.rules.specs.declared.data.Call.TheVariants.{Begin as BeginCall, Octet as OctetCall, End as EndCall, Read as ReadCall, Write as WriteCall};
 ghost use Rattle.rules.specs.Steps.{station as new_station, step};
 ghost use Rattle.rules.specs.After.{Promised};
@@ -48,6 +48,14 @@ impl<M: Memory> Station<M> {
             },
             memory,
         }
+    }
+
+    // How many octets the memory has: those that a contract calls the station's.
+    pub fn size(&self) -> usize
+        ensures size { result ≡ length self.now.station.octets }
+        ensures memory { M.octets self.now.memory ≡ self.now.station.octets }
+    {
+        self.memory.size()
     }
 
     pub fn into_memory(self) -> M
