@@ -17,10 +17,10 @@ use Rattle.rules.specs.Account.{Account, told, accesses, read_outcome, write_out
 use Rattle.rules.specs.Promise.{Every, turned_away}
 use Rattle.rules.specs.Promise as today
 use Rattle.earlier_promise.specs.Channel as channel
-use Rattle.earlier_promise.specs.Station.{Each, WholeIfAny, failed, RefusedIn, RefusedAt, RefusedRightly, Answered, EachAnswered, Promise}
+use Rattle.earlier_promise.specs.Station.{WholeIfAny, failed, RefusedIn, RefusedAt, RefusedRightly, Answered, EachAnswered, Promise}
 use Rattle.earlier_promise.proofs.Channels.{whole, reasons}
 
-pub each : {X : Type 0} → (P Q : X → Type 0) → ((x : X) → P x → Q x) → (xs : List X) → Every P xs → Each Q xs
+pub each : {X : Type 0} → (P Q : X → Type 0) → ((x : X) → P x → Q x) → (xs : List X) → Every P xs → Every Q xs
 each P Q f [] h = tt
 each P Q f (x ∷ xs) h = (f x h.0, each P Q f xs h.1)
 

@@ -16,13 +16,9 @@ use Rattle.rules.specs.declared.data.Answer.{Answer}
 use Rattle.rules.specs.Questions.{channel_at}
 use Rattle.rules.specs.Steps.{station, history}
 use Rattle.rules.specs.Account.{Account, nothing, told, accesses, read_outcome, write_outcome, after_reads, note, tell}
-use Rattle.rules.specs.Promise.{bare_answer, due}
+use Rattle.rules.specs.Promise.{Every, bare_answer, due}
 use Rattle.earlier_promise.specs.Channel.{reason}
 use Rattle.earlier_promise.specs.Channel as channel
-
-abbrev pub Each : {X : Type 0} → (X → Type 0) → List X → Type 0
-Each P [] = Unit {0}
-Each P (x ∷ xs) = P x × Each P xs
 
 abbrev pub WholeIfAny : Option Story → Type 0
 WholeIfAny None = Unit {0}
@@ -44,7 +40,7 @@ RefusedAt ts x b None = Unit {0}
 RefusedAt ts x b (Some n) = RefusedIn x b (slice_index_or ts n None)
 
 abbrev pub RefusedRightly : List (Option Story) → (refused : Bool) → List Access → Type 0
-RefusedRightly ts b xs = Each (λ x. RefusedAt ts x b (channel_at (told ts) x.address)) xs
+RefusedRightly ts b xs = Every (λ x. RefusedAt ts x b (channel_at (told ts) x.address)) xs
 
 pub record Answered (N number : ℕ) (a : Account) (c : Call) (y : Answer) : Type 0 where
   pub as-asked : bare_answer y ≡ due N number a (after_reads N number a c y) c
@@ -56,8 +52,8 @@ EachAnswered N number a [] = Unit {0}
 EachAnswered N number a (e ∷ es) = Answered N number a e.0 e.1 × EachAnswered N number (note N number a e.0 e.1) es
 
 pub record Promise (N number : ℕ) (h : List (Call × Answer)) : Type 0 where
-  pub current : Each WholeIfAny (tell N number nothing h).current
-  pub past : Each channel.Whole (tell N number nothing h).past
+  pub current : Every WholeIfAny (tell N number nothing h).current
+  pub past : Every channel.Whole (tell N number nothing h).past
   pub refusals : EachAnswered N number nothing h
 
 abbrev pub StationPromised : Type 0

@@ -2,3 +2,4 @@ pub mod Numerals
 pub mod Text
 pub mod Lines
 pub mod Scripts
+pub mod Played

@@ -2,9 +2,9 @@
 #![tactic(auto)]
 
 mod line;
-mod play;
+mod played;
 mod script;
 mod shown;
 mod words;
 
-pub use play::play_arguments;
+pub use played::{Played, play};
