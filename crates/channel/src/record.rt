@@ -7,7 +7,7 @@ use crate::setting::{Denial, Setting, Window};
 use cover::Span;
 
 // The service lasts from an accepted enabling to the kept frame end that clears the enable bit, and its transactions end with it.
-#[derive(Clone, Copy)]
+#[derive(Clone, Copy, Default)]
 pub struct Channel {
     pub service: Option<Service>,
 }

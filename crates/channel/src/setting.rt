@@ -14,7 +14,7 @@ pub enum Kind {
 }
 
 // Octets 0 and 1 are the start, 2 and 3 the length, 4 is control, 5 the status that the service shows, 6 holds enable in bit 0, and 7 is 0.
-#[derive(Clone, Copy, PartialEq, Eq, Debug)]
+#[derive(Clone, Copy, PartialEq, Eq, Debug, Default)]
 pub struct Setting {
     pub start: u16,
     pub length: u16,
