@@ -49,10 +49,10 @@ pub struct Addresses {
     pub alias: u16,
 }
 
-impl Command {
-    pub(crate) fn of(octet: u8) -> Command
-        ensures { result ≡ command_of octet }
-    {
+impl From<u8> for Command {
+    ghost from_gives = { λ octet r. r ≡ command_of octet };
+
+    fn from(octet: u8) -> Command {
         match octet {
             1 => Command::Aprd,
             2 => Command::Apwr,
@@ -71,7 +71,9 @@ impl Command {
             _ => Command::Other,
         }
     }
+}
 
+impl Command {
     pub(crate) fn addressing(self) -> Addressing
         ensures { result ≡ addressing_of self }
     {
@@ -100,21 +102,17 @@ impl Command {
     pub(crate) fn forwards_next(self) -> bool
         ensures { result ≡ forwards_next (addressing_of self) }
     {
-        match self {
-            Command::Aprd | Command::Apwr | Command::Aprw | Command::Armw => true,
-            Command::Brd | Command::Bwr | Command::Brw => true,
-            _ => false,
-        }
+        matches!(
+            self.addressing(),
+            Addressing::ByPosition | Addressing::Broadcast
+        )
     }
 
     // Whether a fetched octet is ORed into the one that came.
     pub(crate) fn ors(self) -> bool
         ensures { result ≡ ors self }
     {
-        match self {
-            Command::Brd | Command::Brw => true,
-            _ => false,
-        }
+        matches!(self, Command::Brd | Command::Brw)
     }
 }
 

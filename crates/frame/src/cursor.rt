@@ -94,7 +94,7 @@ impl Cursor {
         ensures next { self.new ≡ to Position.Index (fresh (command_of octet)) }
         ensures leaves { result ≡ octet }
     {
-        self.datagram = Datagram::of(Command::of(octet));
+        self.datagram = Datagram::of(Command::from(octet));
         self.position = Position::Index;
         octet
     }

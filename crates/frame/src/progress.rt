@@ -113,9 +113,6 @@ impl Progress {
     fn is_complete(&self) -> bool
         ensures { result ≡ ended_by self.now.cursor.position }
     {
-        match self.cursor.position {
-            Position::Padding | Position::Passing => true,
-            _ => false,
-        }
+        matches!(self.cursor.position, Position::Padding | Position::Passing)
     }
 }
