@@ -54,17 +54,10 @@ impl<F> Accessed<F> {
     pub fn whole(octet: u8, read: Outcome<u8, F>, write: Outcome<(), F>) -> Accessed<F>
         ensures { result ≡ replaced octet read write }
     {
-        match read {
-            Outcome::Done(fetched) => Accessed {
-                read: Outcome::Done(fetched),
-                write,
-                laid: fetched,
-            },
-            other => Accessed {
-                read: other,
-                write,
-                laid: octet,
-            },
-        }
+        let laid = match &read {
+            Outcome::Done(fetched) => *fetched,
+            _ => octet,
+        };
+        Accessed { read, write, laid }
     }
 }
