@@ -1,4 +1,3 @@
 pub mod Steps
 pub mod Telegrams
 pub mod Whole
-pub mod InPlace

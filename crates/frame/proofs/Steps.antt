@@ -6,10 +6,6 @@ use Rattle.frame.specs.Datagrams.{pair}
 use Rattle.frame.specs.Cursors.{carried}
 
 module _ {S X : Type 0} (next : S → X → S) where
-  pub folded-append : (s : S) (xs ys : List X) → fold next s (xs ++ ys) ≡ fold next (fold next s xs) ys
-  folded-append s [] ys = refl
-  folded-append s (x ∷ xs) ys = folded-append (next s x) xs ys
-
   pub emitted-append : {Y : Type 0} (out : S → X → Y) (s : S) (xs ys : List X) → emitted next out s (xs ++ ys) ≡ emitted next out s xs ++ emitted next out (fold next s xs) ys
   emitted-append out s [] ys = refl
   emitted-append out s (x ∷ xs) ys = ap (λ l. out s x ∷ l) (emitted-append out (next s x) xs ys)

@@ -1,6 +1,7 @@
 -- The laws of one datagram.
 use Rattle.std.proofs.Common.{◌≡◌, ℕ, suc, ◌+◌, ◌*◌, ◌/◌, ◌%◌, ◌<◌, ◌≤◌, Bool, true, false, cond, not, ltb, List, [], ◌∷◌, ◌++◌, map, length, sym, refl, ap, ◌∙◌, arith, lit<, le-ltb, lt-ltb}
 use Rattle.std.proofs.lemmas.List.{length-map, length-append, map-append, append_assoc}
+use Rattle.std.proofs.lemmas.List.Sums.{fold-append}
 use Rattle.frame.specs.declared.command.Action.{Action}
 use Rattle.frame.specs.declared.command.Action.TheVariants.{Read, Write, ReadWrite, ReadOrWrite, Nothing as NoAction}
 use Rattle.frame.specs.declared.outcome.Outcome.{Outcome}
@@ -16,7 +17,7 @@ use Rattle.frame.specs.Cursors.{to, data_from, followed_by, carried, shown, want
 use Rattle.std.specs.List.{list_any}
 use Rattle.frame.specs.Wire.{Item, octets, next, out, after, leaving, Telegram, Formed, head, foot, wire, reaches, refused, succeeds, gained, passed}
 use Rattle.frame.specs.Laws.{DatagramLeaves, DatagramIsFollowed, DataOctetAsks}
-use Rattle.frame.proofs.Steps.{folded-append, emitted-append, pair-back, length_back, more-back, next_low, next-high, sum_low, sum-high}
+use Rattle.frame.proofs.Steps.{emitted-append, pair-back, length_back, more-back, next_low, next-high, sum_low, sum-high}
 
 -- TALLIES of a list of outcomes, and what they are worth
 abbrev pub met_all : {X F : Type 0} → Tally → List (Outcome X F) → Tally
@@ -121,7 +122,7 @@ module _ {F : Type 0} where
   pub after-some : (d : Datagram) (more : Bool) (t : Telegram F) (xs : List (Item F)) → Formed t → length xs ≤ length t.items →
       after (to at.Command d) (head more t ++ xs) ≡ to (data_from (0 + length xs) (length t.items)) (headed more t xs)
   after-some d more t xs f h =
-      folded-append next (to at.Command d) (head more t) xs ∙ ap (λ c. after c xs) (after-head d more t f) ∙ after-data (headed more t []) 0 xs (omega arith) ∙ ap (to (data_from (0 + length xs) (length t.items))) (tallied-is (headed more t []) xs)
+      fold-append next (to at.Command d) (head more t) xs ∙ ap (λ c. after c xs) (after-head d more t f) ∙ after-data (headed more t []) 0 xs (omega arith) ∙ ap (to (data_from (0 + length xs) (length t.items))) (tallied-is (headed more t []) xs)
 
   pub after_items : (d : Datagram) (more : Bool) (t : Telegram F) → Formed t → after (to at.Command d) (head more t ++ t.items) ≡ to at.CounterLow (headed more t t.items)
   after_items d more t f =
@@ -129,7 +130,7 @@ module _ {F : Type 0} where
 
   pub after-wire : (d : Datagram) (more : Bool) (t : Telegram F) → Formed t → after (to at.Command d) (wire more t) ≡ to (followed_by more) (headed more t t.items)
   after-wire d more t f =
-      ap (after (to at.Command d)) (sym (append_assoc (head more t) t.items (foot t))) ∙ folded-append next (to at.Command d) (head more t ++ t.items) (foot t) ∙ ap (λ c. after c (foot t)) (after_items d more t f)
+      ap (after (to at.Command d)) (sym (append_assoc (head more t) t.items (foot t))) ∙ fold-append next (to at.Command d) (head more t ++ t.items) (foot t) ∙ ap (λ c. after c (foot t)) (after_items d more t f)
 
   -- WHAT LEAVES: header, data, counter
   head-leaves : (d : Datagram) (more : Bool) (t : Telegram F) → Formed t → leaving (to at.Command d) (head more t) ≡ octets (head more (passed t))
@@ -165,7 +166,7 @@ module _ {F : Type 0} where
   wire-leaves d more t f =
       let c = to at.Command d in
       let s = to (data_from 0 (length t.items)) (headed more t []) in
-      let all : after s t.items ≡ to at.CounterLow (headed more t t.items) = ap (λ c. after c t.items) (sym (after-head d more t f)) ∙ sym (folded-append next c (head more t) t.items) ∙ after_items d more t f in
+      let all : after s t.items ≡ to at.CounterLow (headed more t t.items) = ap (λ c. after c t.items) (sym (after-head d more t f)) ∙ sym (fold-append next c (head more t) t.items) ∙ after_items d more t f in
       emitted-append next out c (head more t) (t.items ++ foot t)
       ∙ ap (λ c. leaving (to at.Command d) (head more t) ++ leaving c (t.items ++ foot t)) (after-head d more t f)
       ∙ ap (λ l. leaving c (head more t) ++ l) (emitted-append next out s t.items (foot t) ∙ ap (λ c. leaving s t.items ++ leaving c (foot t)) all)

@@ -2,6 +2,7 @@
 use Rattle.std.proofs.Common.{◌≡◌, ℕ, zero, suc, ◌+◌, ◌/◌, ◌%◌, ◌≤◌, min, Bool, true, false, cond, ltb, List, [], ◌∷◌, ◌++◌, map, length, take, drop, Ok, Err, sym, refl, ap, ◌∙◌, arith, le-ltb, lt-ltb}
 use borrow.Author.Tests.{clash}
 use Rattle.std.proofs.lemmas.List.{length-append, length-take, map-append, append_assoc, take-append-le, take-append-drop, take_all}
+use Rattle.std.proofs.lemmas.List.Sums.{fold-append}
 use Rattle.std.proofs.lemmas.Bool.Decides.{nat_tests}
 use Rattle.frame.specs.declared.command.Command.TheVariants.{Other}
 use Rattle.frame.specs.declared.datagram.Datagram.{Datagram}
@@ -16,47 +17,19 @@ use Rattle.frame.specs.Cursors.{to, begun, next_at, leaves_at}
 use Rattle.frame.specs.Frames.{begun_frame, ended_by, passes, kept, or_unchanged}
 use Rattle.frame.specs.Wire.{Item, octets, next, out, after, leaving, fed, forwarded, Telegram, AllFormed, head, foot, wire, passed, chain, framed}
 use Rattle.frame.specs.Laws.{PaddingLeaves, PassingLeaves, FrameLeaves, FrameEnds, CutFrameDoesNotEnd, FirstOctetsCount, FirstOctetsLeave, FrameIsKept, PassingIsKept, LongFrameIsDropped, CutFrameIsDropped}
-use Rattle.frame.proofs.Steps.{folded-append, emitted-append}
+use Rattle.frame.proofs.Steps.{emitted-append}
 use Rattle.frame.proofs.Telegrams.{headed, after_items, after-wire, wire-leaves}
 
 -- ONCE ENDED, a frame stays ended, and its octets leave as they came
 stays-next : (p : Position) (d : Datagram) (o : ℕ) → ended_by p ≡ true → ended_by (next_at p d o) ≡ true
-stays-next at.HeaderLow d o e = e
-stays-next at.HeaderHigh d o e = absurd (clash e)
-stays-next at.Command d o e = e
-stays-next at.Index d o e = e
-stays-next at.AdpLow d o e = e
-stays-next (at.AdpHigh low) d o e = e
-stays-next at.AdoLow d o e = e
-stays-next (at.AdoHigh low) d o e = e
-stays-next at.LenLow d o e = e
-stays-next (at.LenHigh low) d o e = e
-stays-next at.IrqLow d o e = e
-stays-next at.IrqHigh d o e = absurd (clash e)
-stays-next (at.Data j) d o e = absurd (clash e)
-stays-next at.CounterLow d o e = e
-stays-next (at.CounterHigh carry) d o e = absurd (clash e)
 stays-next at.Padding d o e = e
 stays-next at.Passing d o e = e
+stays-next _ d o e = absurd (clash e)
 
 same_out : (p : Position) (d : Datagram) (o laid : ℕ) → ended_by p ≡ true → leaves_at p d o laid ≡ o
-same_out at.HeaderLow d o laid e = refl
-same_out at.HeaderHigh d o laid e = refl
-same_out at.Command d o laid e = refl
-same_out at.Index d o laid e = refl
-same_out at.AdpLow d o laid e = absurd (clash e)
-same_out (at.AdpHigh low) d o laid e = absurd (clash e)
-same_out at.AdoLow d o laid e = refl
-same_out (at.AdoHigh low) d o laid e = refl
-same_out at.LenLow d o laid e = refl
-same_out (at.LenHigh low) d o laid e = refl
-same_out at.IrqLow d o laid e = refl
-same_out at.IrqHigh d o laid e = refl
-same_out (at.Data j) d o laid e = absurd (clash e)
-same_out at.CounterLow d o laid e = absurd (clash e)
-same_out (at.CounterHigh carry) d o laid e = absurd (clash e)
 same_out at.Padding d o laid e = refl
 same_out at.Passing d o laid e = refl
+same_out _ d o laid e = absurd (clash e)
 
 -- a position that is not ended yet, if it was not ended later
 not_yet : (b c : Bool) → (b ≡ true → c ≡ true) → c ≡ false → b ≡ false
@@ -85,7 +58,7 @@ module _ {F : Type 0} where
   after-chain : (d : Datagram) (t : Telegram F) (ts : List (Telegram F)) → AllFormed (t ∷ ts) → (after (to at.Command d) (chain t ts)).position ≡ at.Padding
   after-chain d t [] f = ap (λ c. c.position) (after-wire d false t f.0)
   after-chain d t (u ∷ us) f =
-      ap (λ c. c.position) (folded-append next (to at.Command d) (wire true t) (chain u us))
+      ap (λ c. c.position) (fold-append next (to at.Command d) (wire true t) (chain u us))
       ∙ ap (λ c. (after c (chain u us)).position) (after-wire d true t f.0)
       ∙ after-chain (headed true t t.items) u us f.1
 
@@ -119,10 +92,10 @@ module _ {F : Type 0} where
 
   after_front : (d : Datagram) (t : Telegram F) (ts : List (Telegram F)) → AllFormed (t ∷ ts) → ended_by (after (to at.Command d) (front t ts)).position ≡ false
   after_front d t [] f =
-      ap (λ c. ended_by c.position) (folded-append next (to at.Command d) (head false t ++ t.items) (low-counter t))
+      ap (λ c. ended_by c.position) (fold-append next (to at.Command d) (head false t ++ t.items) (low-counter t))
       ∙ ap (λ c. ended_by (after c (low-counter t)).position) (after_items d false t f.0)
   after_front d t (u ∷ us) f =
-      ap (λ c. ended_by c.position) (folded-append next (to at.Command d) (wire true t) (front u us))
+      ap (λ c. ended_by c.position) (fold-append next (to at.Command d) (wire true t) (front u us))
       ∙ ap (λ c. ended_by (after c (front u us)).position) (after-wire d true t f.0)
       ∙ after_front (headed true t t.items) u us f.1
 
@@ -142,14 +115,14 @@ module _ {F : Type 0} where
       let c = opened true in
       let done : ended_by (after c (chain t ts)).position ≡ true = ap ended_by (after-chain (fresh Other) t ts f) in
       ap (λ b. ended_by (after (opened b) (chain t ts ++ padding)).position) e
-      ∙ ap (λ c. ended_by c.position) (folded-append next c (chain t ts) padding)
+      ∙ ap (λ c. ended_by c.position) (fold-append next c (chain t ts) padding)
       ∙ stays (after c (chain t ts)) padding done
 
   -- a part of a list that was run through with no end in it
   cut : (c : Cursor) (xs : List (Item F)) (k : ℕ) → ended_by (after c xs).position ≡ false → ended_by (after c (take k xs)).position ≡ false
   cut c xs k e =
       not_yet (ended_by (after c (take k xs)).position) (ended_by (after c xs).position)
-      (λ h. ap (λ l. ended_by (after c l).position) (sym (take-append-drop k xs)) ∙ ap (λ c. ended_by c.position) (folded-append next c (take k xs) (drop k xs)) ∙ stays (after c (take k xs)) (drop k xs) h) e
+      (λ h. ap (λ l. ended_by (after c l).position) (sym (take-append-drop k xs)) ∙ ap (λ c. ended_by c.position) (fold-append next c (take k xs) (drop k xs)) ∙ stays (after c (take k xs)) (drop k xs) h) e
 
   pub cut-frame-does-not-end : CutFrameDoesNotEnd F
   cut-frame-does-not-end low high t ts k e f h =
