@@ -2,6 +2,7 @@
 use Rattle.std.proofs.Common.{◌≡◌, ℕ, suc, ◌+◌, ◌*◌, ◌/◌, ◌%◌, ◌<◌, ◌≤◌, Bool, true, false, cond, not, ltb, List, [], ◌∷◌, ◌++◌, map, length, sym, refl, ap, ◌∙◌, arith, lit<, le-ltb, lt-ltb}
 use Rattle.std.proofs.lemmas.List.{length-map, length-append, map-append, append_assoc}
 use Rattle.std.proofs.lemmas.List.Sums.{fold-append}
+use Rattle.std.proofs.lemmas.Bool.Decides.{nat_tests}
 use Rattle.frame.specs.declared.command.Action.{Action}
 use Rattle.frame.specs.declared.command.Action.TheVariants.{Read, Write, ReadWrite, ReadOrWrite, Nothing as NoAction}
 use Rattle.frame.specs.declared.outcome.Outcome.{Outcome}
@@ -26,32 +27,18 @@ met_all t (x ∷ xs) = met_all (met t x) xs
 
 failed : {X F : Type 0} (xs : List (Outcome X F)) → met_all Failure xs ≡ Failure
 failed [] = refl
-failed (NotWanted ∷ xs) = failed xs
-failed (Done v ∷ xs) = failed xs
-failed (Refused f ∷ xs) = failed xs
+failed (x ∷ xs) = grind (arith, failed xs)
 
 going : {X F : Type 0} (xs : List (Outcome X F)) (n : ℕ) → worth (met_all Success xs) n ≡ cond (not (list_any refused xs)) n 0
 going [] n = refl
-going (NotWanted ∷ xs) n = going xs n
-going (Done v ∷ xs) n = going xs n
-going (Refused f ∷ xs) n = ap (λ t. worth t n) (failed xs)
+going (x ∷ xs) n = grind (arith, going xs n, failed xs)
 
 earned : {X F : Type 0} (xs : List (Outcome X F)) (n : ℕ) → worth (met_all Nothing xs) n ≡ cond (succeeds xs) n 0
 earned [] n = refl
-earned (NotWanted ∷ xs) n = earned xs n
-earned (Done v ∷ xs) n = going xs n
-earned (Refused f ∷ xs) n = ap (λ t. worth t n) (failed xs)
+earned (x ∷ xs) n = grind (arith, earned xs n, going xs n, failed xs)
 
 worth-small : (k : Action) → write_worth k < 3
-worth-small Read = lit< tt
-worth-small Write = lit< tt
-worth-small ReadWrite = lit< tt
-worth-small ReadOrWrite = lit< tt
-worth-small NoAction = lit< tt
-
-at_most : (b : Bool) (n m : ℕ) → n < m → cond b n 0 < m
-at_most true n m h = h
-at_most false n m h = omega arith
+worth-small k = grind arith
 
 -- THE DATAGRAM as its header leaves it, and after some of its data
 abbrev pub headed : {F : Type 0} → Bool → Telegram F → List (Item F) → Datagram
@@ -69,10 +56,10 @@ headed more t xs =
 
 -- where data octet j of n stands
 in-data : (j n : ℕ) → j < n → data_from j n ≡ at.Data j
-in-data j n h = ap (λ b. cond b (at.Data j) at.CounterLow) (lt-ltb j n h)
+in-data j n h = grind (arith, nat_tests)
 
 past-data : (j n : ℕ) → n ≤ j → data_from j n ≡ at.CounterLow
-past-data j n h = ap (λ b. cond b (at.Data j) at.CounterLow) (le-ltb j n h)
+past-data j n h = grind (arith, nat_tests)
 
 module _ {F : Type 0} where
   abbrev tallied_all : Datagram → List (Item F) → Datagram
@@ -152,10 +139,7 @@ module _ {F : Type 0} where
       λ i. earned (map (λ x. x.1.accessed.read) t.items) 1 i + earned (map (λ x. x.1.accessed.write) t.items) (write_worth (action_of (command_of t.command))) i
 
   gained-small : (t : Telegram F) → gained t < 4
-  gained-small t =
-      let r = at_most (succeeds (map (λ x. x.1.accessed.read) t.items)) 1 2 (lit< tt) in
-      let w = at_most (succeeds (map (λ x. x.1.accessed.write) t.items)) (write_worth (action_of (command_of t.command))) 3 (worth-small (action_of (command_of t.command))) in
-      omega arith
+  gained-small t = let w : write_worth (action_of (command_of t.command)) < 3 = worth-small _ in grind (arith, nat_tests)
 
   foot-leaves : (more : Bool) (t : Telegram F) → Formed t → leaving (to at.CounterLow (headed more t t.items)) (foot t) ≡ octets (foot (passed t))
   foot-leaves more t f =

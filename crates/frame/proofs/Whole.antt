@@ -22,19 +22,14 @@ use Rattle.frame.proofs.Telegrams.{headed, after_items, after-wire, wire-leaves}
 
 -- ONCE ENDED, a frame stays ended, and its octets leave as they came
 stays-next : (p : Position) (d : Datagram) (o : ℕ) → ended_by p ≡ true → ended_by (next_at p d o) ≡ true
-stays-next at.Padding d o e = e
-stays-next at.Passing d o e = e
-stays-next _ d o e = absurd (clash e)
+stays-next p d o e = grind arith
 
 same_out : (p : Position) (d : Datagram) (o laid : ℕ) → ended_by p ≡ true → leaves_at p d o laid ≡ o
-same_out at.Padding d o laid e = refl
-same_out at.Passing d o laid e = refl
-same_out _ d o laid e = absurd (clash e)
+same_out p d o laid e = grind arith
 
 -- a position that is not ended yet, if it was not ended later
 not_yet : (b c : Bool) → (b ≡ true → c ≡ true) → c ≡ false → b ≡ false
-not_yet true c h e = absurd (clash (sym e ∙ h refl))
-not_yet false c h e = refl
+not_yet b c h e = grind arith
 
 -- after the two octets of the header
 abbrev opened : Bool → Cursor
