@@ -2,6 +2,7 @@
 use Rattle.std.proofs.Common.{◌≡◌, ℕ, suc, ◌+◌, ◌*◌, ◌/◌, ◌%◌, ◌<◌, ◌≤◌, Bool, true, false, cond, not, ltb, List, [], ◌∷◌, ◌++◌, map, length, sym, refl, ap, ◌∙◌, arith, lit<, le-ltb, lt-ltb}
 use Rattle.std.proofs.lemmas.List.{length-map, length-append, map-append, append_assoc}
 use Rattle.std.proofs.lemmas.List.Sums.{fold-append}
+use Rattle.std.proofs.lemmas.Simd.{map-map}
 use Rattle.std.proofs.lemmas.Bool.Decides.{nat_tests}
 use Rattle.frame.specs.declared.command.Action.{Action}
 use Rattle.frame.specs.declared.command.Action.TheVariants.{Read, Write, ReadWrite, ReadOrWrite, Nothing as NoAction}
@@ -126,13 +127,9 @@ module _ {F : Type 0} where
       let long = sym (length-map t.items (λ x. (shown (command_of t.command) x.0 x.1.accessed.laid, x.1))) in
       λ i. t.command ∷ t.index ∷ next_low counts t.adp i ∷ next-high counts t.adp f.adp-fits i ∷ (t.ado % 256) ∷ (t.ado / 256) ∷ (long i % 256) ∷ (long i / 256 + 8 * t.spare + cond more 128 0) ∷ (t.irq % 256) ∷ (t.irq / 256) ∷ []
 
-  shown-octets : (g : Item F → ℕ) (xs : List (Item F)) → map g xs ≡ octets (map (λ x. (g x, x.1)) xs)
-  shown-octets g [] = refl
-  shown-octets g (x ∷ xs) = ap (λ l. g x ∷ l) (shown-octets g xs)
-
   items-leave : (more : Bool) (t : Telegram F) → leaving (to (data_from 0 (length t.items)) (headed more t [])) t.items ≡ octets (passed t).items
   items-leave more t =
-      data-leaves (headed more t []) 0 t.items (omega arith) ∙ shown-octets (λ x. shown (command_of t.command) x.0 x.1.accessed.laid) t.items
+      data-leaves (headed more t []) 0 t.items (omega arith) ∙ sym (map-map (λ x. x.0) (λ x. (shown (command_of t.command) x.0 x.1.accessed.laid, x.1)) t.items)
 
   added_is : (more : Bool) (t : Telegram F) → added (headed more t t.items) ≡ gained t
   added_is more t =
