@@ -1,13 +1,11 @@
 -- The laws of one datagram.
-use Rattle.std.proofs.Common.{◌≡◌, ℕ, suc, ◌+◌, ◌*◌, ◌/◌, ◌%◌, ◌<◌, ◌≤◌, Bool, true, false, cond, not, ltb, List, [], ◌∷◌, ◌++◌, map, length, sym, refl, ap, ◌∙◌, arith, lit<, le-ltb, lt-ltb}
+use Rattle.std.proofs.Common.{◌≡◌, ℕ, suc, ◌+◌, ◌*◌, ◌/◌, ◌%◌, ◌<◌, ◌≤◌, Bool, cond, not, ltb, List, [], ◌∷◌, ◌++◌, map, length, sym, refl, ap, ◌∙◌, arith}
 use Rattle.std.proofs.lemmas.List.{length-map, length-append, map-append, append_assoc}
 use Rattle.std.proofs.lemmas.List.Sums.{fold-append}
 use Rattle.std.proofs.lemmas.Simd.{map-map}
 use Rattle.std.proofs.lemmas.Bool.Decides.{nat_tests}
 use Rattle.frame.specs.declared.command.Action.{Action}
-use Rattle.frame.specs.declared.command.Action.TheVariants.{Read, Write, ReadWrite, ReadOrWrite, Nothing as NoAction}
 use Rattle.frame.specs.declared.outcome.Outcome.{Outcome}
-use Rattle.frame.specs.declared.outcome.Outcome.TheVariants.{NotWanted, Done, Refused}
 use Rattle.frame.specs.declared.outcome.Tally.{Tally}
 use Rattle.frame.specs.declared.outcome.Tally.TheVariants.{Nothing, Success, Failure}
 use Rattle.frame.specs.declared.datagram.Datagram.{Datagram}

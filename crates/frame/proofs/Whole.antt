@@ -1,6 +1,5 @@
 -- The laws of whole frames.
-use Rattle.std.proofs.Common.{◌≡◌, ℕ, zero, suc, ◌+◌, ◌/◌, ◌%◌, ◌≤◌, min, Bool, true, false, cond, ltb, List, [], ◌∷◌, ◌++◌, map, length, take, drop, Ok, Err, sym, refl, ap, ◌∙◌, arith, le-ltb, lt-ltb}
-use borrow.Author.Tests.{clash}
+use Rattle.std.proofs.Common.{◌≡◌, ℕ, zero, suc, ◌+◌, ◌/◌, ◌%◌, ◌≤◌, min, Bool, true, false, cond, ltb, List, [], ◌∷◌, ◌++◌, map, length, take, drop, Err, sym, refl, ap, ◌∙◌, arith, le-ltb, lt-ltb}
 use Rattle.std.proofs.lemmas.List.{length-append, length-take, map-append, append_assoc, take-append-le, take-append-drop, take_all}
 use Rattle.std.proofs.lemmas.List.Sums.{fold-append}
 use Rattle.std.proofs.lemmas.Bool.Decides.{nat_tests}
@@ -11,10 +10,10 @@ use Rattle.frame.specs.declared.cursor.Position.TheVariants as at
 use Rattle.frame.specs.declared.cursor.Cursor.{Cursor}
 use Rattle.frame.specs.declared.progress.Progress.{Progress}
 use Rattle.frame.specs.declared.progress.Verdict.{Verdict}
-use Rattle.frame.specs.declared.progress.Reason.TheVariants.{TooLong, Unfinished}
+use Rattle.frame.specs.declared.progress.Reason.TheVariants.{Unfinished}
 use Rattle.frame.specs.Datagrams.{fresh}
 use Rattle.frame.specs.Cursors.{to, begun, next_at, leaves_at}
-use Rattle.frame.specs.Frames.{begun_frame, ended_by, passes, kept, or_unchanged}
+use Rattle.frame.specs.Frames.{begun_frame, ended_by, passes, kept}
 use Rattle.frame.specs.Wire.{Item, octets, next, out, after, leaving, fed, forwarded, Telegram, AllFormed, head, foot, wire, passed, chain, framed}
 use Rattle.frame.specs.Laws.{PaddingLeaves, PassingLeaves, FrameLeaves, FrameEnds, CutFrameDoesNotEnd, FirstOctetsCount, FirstOctetsLeave, FrameIsKept, PassingIsKept, LongFrameIsDropped, CutFrameIsDropped}
 use Rattle.frame.proofs.Steps.{emitted-append}

@@ -2,6 +2,7 @@
 ghost use Rattle.std.specs.Prelude.{◌≡◌};
 ghost use Rattle.frame.specs.Commands.{command_of, addressing_of, action_of, is_addressed, forwards_next, shall_read, shall_write, write_worth, ors};
 
+// `Other` is every other octet, and no refusal: its datagram is forwarded as it came.
 #[derive(Clone, Copy)]
 pub enum Command {
     Aprd,
@@ -22,7 +23,7 @@ pub enum Command {
 }
 
 // Whom a command addresses: the station that it reaches with ADP 0, the one whose address or alias is ADP, every station, whoever maps the
-// logical address, or nobody.
+// logical address, or nobody. `Nobody` is a row of the table like the others, so that each rule is total.
 #[derive(Clone, Copy)]
 pub enum Addressing {
     ByPosition,
@@ -32,7 +33,7 @@ pub enum Addressing {
     Nobody,
 }
 
-// What a command asks for. `ReadOrWrite`: of the addressed station a read, of the others a write.
+// What a command asks for. `ReadOrWrite`: of the addressed station a read, of the others a write. `Nothing` is a row too: `Other` has an action.
 #[derive(Clone, Copy)]
 pub enum Action {
     Read,
@@ -49,6 +50,7 @@ pub struct Addresses {
     pub alias: u16,
 }
 
+// Total, and so no `TryFrom`.
 impl From<u8> for Command {
     ghost from_gives = { λ octet r. r ≡ command_of octet };
 

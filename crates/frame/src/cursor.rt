@@ -61,6 +61,7 @@ impl Cursor {
         ensures next { self.new ≡ advanced self.old octet addresses accessed.now.read accessed.now.write }
         ensures leaves { result ≡ leaves_of self.old octet accessed.now.laid }
     {
+        // One `match` on position and octet together, in place: a form asked for (docs/DECISIONS.md).
         match (self.position, octet) {
             (Position::HeaderLow, _) => self.pass(octet, Position::HeaderHigh),
             (Position::HeaderHigh, 0x10..=0x1f) => self.pass(octet, Position::Command),

@@ -22,6 +22,7 @@ fn done_if<T: Drop>(wanted: bool, value: T) -> Outcome<T, ()>
 fn serve(wanted: Option<Wanted>, octet: u8, holds: u8) -> Accessed<()>
     ensures { result ≡ served holds octet wanted }
 {
+    // A `match`: `map_or` would spell out both answers too.
     match wanted {
         Some(w) => Accessed::whole(octet, done_if(w.read, holds), done_if(w.write, ())),
         None => Accessed::whole(octet, Outcome::NotWanted, Outcome::NotWanted),

@@ -17,7 +17,7 @@ pub struct Progress {
     pub cursor: Cursor,
 }
 
-// The frame check's verdict, which the driver brings.
+// The frame check's verdict, which the driver brings. Two names: a `bool` at a call would not say which is good.
 #[derive(Clone, Copy, PartialEq, Eq, Debug)]
 pub enum Verdict {
     Good,
