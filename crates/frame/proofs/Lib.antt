@@ -1,3 +1,4 @@
 pub mod Steps
 pub mod Telegrams
 pub mod Whole
+pub mod InPlace
