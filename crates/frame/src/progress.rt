@@ -24,24 +24,20 @@ pub enum Verdict {
     Bad,
 }
 
-// Why an octet is refused, or a frame dropped at its end: more than 1,500 octets, an end before the last datagram is complete, a bad frame
-// check.
+// Why an octet is refused, or a frame dropped at its end, with its number: more than 1,500 octets, an end before the last datagram is complete, a
+// bad frame check.
 #[derive(Clone, Copy, PartialEq, Eq, Debug)]
 pub enum Reason {
-    TooLong,
-    Unfinished,
-    BadCheck,
+    TooLong = 16,
+    Unfinished = 17,
+    BadCheck = 18,
 }
 
 impl Reason {
     pub fn number(self) -> u8
         ensures { result ≡ reason_number self }
     {
-        match self {
-            Reason::TooLong => 16,
-            Reason::Unfinished => 17,
-            Reason::BadCheck => 18,
-        }
+        self as u8
     }
 }
 
