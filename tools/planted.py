@@ -39,12 +39,14 @@ def function_at(text, old):
 
 def row(path):
     crate, name = path.split("/")[1], os.path.basename(path)[:-len(".edit")]
-    fields = dict(re.findall(r"(?m)^(file|old|new):[ ]?(.*)$", contents(path)))
+    lines = re.findall(r"(?m)^(file|old|new):[ ]?(.*)$", contents(path))
+    fields = dict(lines[:3])
+    more = sum(1 for kind, _ in lines if kind == "old") - 1
     text = contents(os.path.join("crates", crate, fields["file"]))
     told = "contract of `%s`" % function_at(text, fields["old"])
     if "%s/%s" % (crate, name) in AT_PROOF:
         told += ", at its proof"
-    bug = name.replace("_", " ")
+    bug = name.replace("_", " ") + (" (%d more lines like it)" % more if more else "")
     return "| %s | %s | %s | %s | %s | %s |\n" % (crate, bug, fields["file"], code(fields["old"]), code(fields["new"]), told)
 
 
