@@ -3,7 +3,7 @@ use Rattle.std.specs.Str.{IsUtf8, is_utf8}
 use Rattle.std.proofs.lemmas.Bool.{false_from_ne_true}
 use Rattle.std.proofs.lemmas.Str.{is_utf8-from_IsUtf8, IsUtf8-from_is_utf8}
 use Rattle.scripts.specs.Text.{words_of, texts_of}
-use Rattle.scripts.specs.Scripts.{Held, held, refused, with_words, with_text}
+use Rattle.scripts.specs.Scripts.{Held, refused, with_words, with_text}
 use Rattle.scripts.proofs.script.Script.take_text.Goals as goal
 
 module _ (line : List ℕ) (n : ℕ) (h : Held) where
@@ -18,7 +18,7 @@ pub returns-in_ok-words_of-in-Ok-clause-ok : goal.returns-in_ok-words_of-in-Ok-c
 returns-in_ok-words_of-in-Ok-clause-ok c =
     let text = c.in-Ok.ensures.cases in
     let words : texts_of c.deref.result.now ≡ words_of c.args.line.now = ap texts_of c.deref.ensures.value ∙ (c.in_ok-words_of-in-Ok.ensures ∙ ap words_of text.0) in
-    rw (of_text c.args.line.now c.args.count (held c.args.self.now) text.1, ← words) c.take_words.ensures.ok
+    rw (of_text c.args.line.now c.args.count c.args.self.now text.1, ← words) c.take_words.ensures.ok
 
 pub returns-in-Err-clause-ok : goal.returns-in-Err-clause-ok
-returns-in-Err-clause-ok c = rw (of_no_text c.args.line.now c.args.count (held c.args.self.now) c.in-Err.ensures.cases.0) c.refuse.ensures.ok
+returns-in-Err-clause-ok c = rw (of_no_text c.args.line.now c.args.count c.args.self.now c.in-Err.ensures.cases.0) c.refuse.ensures.ok
