@@ -1,5 +1,5 @@
 -- What a script holds, and what each of its lines adds. Assumes nothing.
-use Rattle.std.specs.Prelude.{◌≡◌, ℕ, Bool, ◌&&◌, ◌==◌, not, nat_eq, List, [], ◌∷◌, ◌++◌, length, take, drop, map, Option, Some, None, cond, codes, is_some, is_none, unwrap_or}
+use Rattle.std.specs.Prelude.{◌≡◌, ℕ, Bool, ◌&&◌, ◌==◌, not, nat_eq, List, [], ◌∷◌, ◌++◌, length, take, drop, map, Option, Some, None, Result, Ok, Err, cond, codes, is_some, is_none, unwrap_or}
 use Rattle.std.specs.List.{starts_with, list_all, filter_map}
 use Rattle.std.specs.Str.{is_utf8}
 use Rattle.rules.specs.declared.data.Call.{Call}
@@ -83,3 +83,8 @@ pub record GoesOn (old new : Held) : Type 0 where
   pub number : new.number ≡ old.number
   pub calls : take (length old.calls) new.calls ≡ old.calls
   pub items : take (length old.items) new.items ≡ old.items
+
+-- what is held after a step: what the step makes of the old, or what goes on from the old if the heap has no room
+abbrev pub Leaves : {E : Type 0} → Result (Unit {0}) E → (step : Held → Held) → (old new : Held) → Type 0
+Leaves (Ok done) step old new = new ≡ step old
+Leaves (Err error) step old new = GoesOn old new

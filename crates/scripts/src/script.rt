@@ -1,11 +1,11 @@
 // A whole script: the set-up, the calls in order, and which lines cannot be read.
-ghost use Rattle.std.specs.Prelude.{◌≡◌, [], ◌∷◌, OnOk, OnErr, is_some};
+ghost use Rattle.std.specs.Prelude.{◌≡◌, [], ◌∷◌, OnErr, is_some};
 ghost use Rattle.std.specs.List.{list_all};
 ghost use Rattle.std.specs.Option.{unwrap_or};
 ghost use Rattle.station.specs.Scripts.{calls_of};
 ghost use Rattle.scripts.specs.Numerals.{octet_of};
 ghost use Rattle.scripts.specs.Text.{texts_of};
-ghost use Rattle.scripts.specs.Scripts.{Held, nothing, own_number, refused, with_calls, with_memory, with_number, are_octets, with_octets, with_words, with_text, with_line, GoesOn};
+ghost use Rattle.scripts.specs.Scripts.{Held, nothing, own_number, refused, with_calls, with_memory, with_number, are_octets, with_octets, with_words, with_text, with_line, Leaves};
 
 use crate::line::{Kind, Line, line_of, words_of};
 use crate::words::octet;
@@ -14,7 +14,7 @@ use station::Entry;
 use std::alloc::{AllocError, Global};
 use std::marker::Model;
 
-// What has a line of output: the next of the calls, or a line that cannot be read.
+// What has a line of output: the next of the calls, or a line that cannot be read. (`replay` takes the calls as one slice of their own.)
 #[derive(Clone, Copy)]
 pub enum Item {
     Call,
@@ -63,8 +63,7 @@ impl Script {
 
     // Takes the next line, the octets of it that are no text included. A line that begins with # says nothing.
     pub fn take(&mut self, heap: Global, line: &[u8], count: u64) -> Result<(), AllocError>
-        ensures ok { OnOk result (self.new ≡ with_line line.now count self.old) }
-        ensures err { OnErr result (GoesOn self.old self.new) }
+        ensures { Leaves result (with_line line.now count) self.old self.new }
     {
         if line.starts_with(b"#") {
             return Ok(());
@@ -73,8 +72,7 @@ impl Script {
     }
 
     fn take_text(&mut self, heap: Global, line: &[u8], count: u64) -> Result<(), AllocError>
-        ensures ok { OnOk result (self.new ≡ with_text line.now count self.old) }
-        ensures err { OnErr result (GoesOn self.old self.new) }
+        ensures { Leaves result (with_text line.now count) self.old self.new }
     {
         match std::str::from_utf8(line) {
             Ok(text) => self.take_words(&words_of(heap, text)?, count),
@@ -84,8 +82,7 @@ impl Script {
 
     // A blank line says nothing.
     fn take_words(&mut self, words: &[&str], count: u64) -> Result<(), AllocError>
-        ensures ok { OnOk result (self.new ≡ with_words (texts_of words.now) count self.old) }
-        ensures err { OnErr result (GoesOn self.old self.new) }
+        ensures { Leaves result (with_words (texts_of words.now) count) self.old self.new }
     {
         if words.is_empty() {
             return Ok(());
@@ -99,8 +96,9 @@ impl Script {
         }
     }
 
+    // The number is taken alike: a helper for both would be handed a field, its value and the test of the calls, and its callers be no shorter.
     fn take_memory(&mut self, kind: Kind, count: u64) -> Result<(), AllocError>
-        ensures ok { OnOk result (self.new ≡ with_memory kind count self.old) }
+        ensures leaves { Leaves result (with_memory kind count) self.old self.new }
         ensures err { OnErr result (self.new ≡ self.old) }
     {
         if self.kind.is_some() || !self.entries.is_empty() {
@@ -111,7 +109,7 @@ impl Script {
     }
 
     fn take_number(&mut self, number: u16, count: u64) -> Result<(), AllocError>
-        ensures ok { OnOk result (self.new ≡ with_number number count self.old) }
+        ensures leaves { Leaves result (with_number number count) self.old self.new }
         ensures err { OnErr result (self.new ≡ self.old) }
     {
         if self.number.is_some() || !self.entries.is_empty() {
@@ -123,8 +121,7 @@ impl Script {
 
     // A call for each octet of the line, or none if one of them cannot be read.
     fn take_octets(&mut self, words: &[&str], count: u64) -> Result<(), AllocError>
-        ensures ok { OnOk result (self.new ≡ with_octets (texts_of words.now) count self.old) }
-        ensures err { OnErr result (GoesOn self.old self.new) }
+        ensures { Leaves result (with_octets (texts_of words.now) count) self.old self.new }
     {
         if !are_octets(words) {
             return self.refuse(count);
@@ -139,8 +136,7 @@ impl Script {
     }
 
     fn push(&mut self, call: Call) -> Result<(), AllocError>
-        ensures ok { OnOk result (self.new ≡ with_calls (call ∷ []) self.old) }
-        ensures err { OnErr result (GoesOn self.old self.new) }
+        ensures { Leaves result (with_calls (call ∷ [])) self.old self.new }
     {
         let answer = Answer::Running;
         self.entries.push(Entry { call, answer })?;
@@ -149,7 +145,7 @@ impl Script {
     }
 
     fn refuse(&mut self, line: u64) -> Result<(), AllocError>
-        ensures ok { OnOk result (self.new ≡ refused line self.old) }
+        ensures leaves { Leaves result (refused line) self.old self.new }
         ensures err { OnErr result (self.new ≡ self.old) }
     {
         self.items.push(Item::Unreadable { line })?;
