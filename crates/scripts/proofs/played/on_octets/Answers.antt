@@ -1,4 +1,4 @@
-use Rattle.std.proofs.Common.{IfOk, subst, ap, ◌∙◌, replicate}
+use Rattle.std.proofs.Common.{IfOk, subst, ap, ◌∙◌}
 use Rattle.memory.specs.Cuts.{counted}
 use Rattle.scripts.specs.Played.{PerformedOn}
 use Rattle.scripts.proofs.Zeros.{cells, octets_zeros}
