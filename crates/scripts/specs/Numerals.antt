@@ -2,6 +2,13 @@
 use Rattle.std.specs.Prelude.{ℕ, ◌+◌, ◌*◌, min, cond, List, [], ◌∷◌, length, drop, Some, None, Option, ◌==◌, nat_eq, nat_lt, codes}
 use Rattle.std.specs.List.{starts_with}
 use Rattle.std.specs.Char.{digit_value}
+use Rattle.scripts.specs.declared.words.Base.{Base}
+use Rattle.scripts.specs.declared.words.Base.TheVariants.{Decimal, Hexadecimal}
+
+-- the base of a numeral, as a number
+abbrev pub radix_of : Base → ℕ
+radix_of Decimal = 10
+radix_of Hexadecimal = 16
 
 -- the value of a digit to this base, of either case
 abbrev pub digit_of : (radix byte : ℕ) → Option ℕ

@@ -7,7 +7,6 @@ use Rattle.station.specs.Scripts.{told}
 use Rattle.scripts.specs.Scripts.{Held, nothing, own_number, with_line}
 use Rattle.scripts.specs.declared.line.Kind.{Kind}
 use Rattle.scripts.specs.declared.line.Kind.TheVariants.{Octets, Words, Joined}
-use Rattle.scripts.specs.declared.script.Script.{Script}
 use Rattle.scripts.specs.declared.played.Played.{Played}
 
 -- the lines of a text: what stands between line feeds
@@ -36,17 +35,17 @@ memory_of (Joined n w) = zeros (n + 2 * w)
 abbrev pub memory_asked : Held → List ℕ
 memory_asked h = memory_of (unwrap_or h.kind (Octets 4096))
 
--- Its calls are made in order on a new station over a memory with these octets: each with its answer stands in the script then, with the promise
+-- Its calls are made in order on a new station over a memory with these octets: each with its answer stands in what was played, with the promise
 -- about messages of all of them, and the octets are those of the memory afterwards.
-pub record PerformedOn (memory : List ℕ) (before : Held) (after : Script) (octets : List ℕ) : Type 0 where
+pub record PerformedOn (memory : List ℕ) (before : Held) (after : Played) : Type 0 where
   pub answers : told after.entries.items ≡ history (station memory (own_number before)) before.calls
   pub items : after.items.items ≡ before.items
-  pub octets_are : octets ≡ (runs (station memory (own_number before)) before.calls).octets
+  pub octets_are : after.octets.items ≡ (runs (station memory (own_number before)) before.calls).octets
   pub promise : Promise (length memory) (own_number before) (told after.entries.items)
 
 -- the same, over the memory that the script asks for
-abbrev pub Performed : (before : Held) → (after : Script) → (octets : List ℕ) → Type 0
-Performed before after octets = PerformedOn (memory_asked before) before after octets
+abbrev pub Performed : (before : Held) → (after : Played) → Type 0
+Performed before after = PerformedOn (memory_asked before) before after
 
 abbrev pub Plays : (text : List ℕ) → Played → Type 0
-Plays text p = Performed (script_of text) p.script p.octets.items
+Plays text p = Performed (script_of text) p

@@ -1,10 +1,9 @@
 -- What a script holds, and what each of its lines adds. Assumes nothing.
-use Rattle.std.specs.Prelude.{◌≡◌, ℕ, Bool, ◌&&◌, ◌==◌, not, nat_eq, List, [], ◌∷◌, ◌++◌, length, take, drop, map, Option, Some, None, cond, codes, is_some, is_none, unwrap_or}
+use Rattle.std.specs.Prelude.{◌≡◌, ℕ, Bool, ◌&&◌, ◌==◌, not, nat_eq, List, [], ◌∷◌, ◌++◌, length, take, drop, map, Option, Some, None, Result, Ok, Err, cond, codes, is_some, is_none, unwrap_or}
 use Rattle.std.specs.List.{starts_with, list_all, filter_map}
 use Rattle.std.specs.Str.{is_utf8}
 use Rattle.rules.specs.declared.data.Call.{Call}
 use Rattle.rules.specs.declared.data.Call.TheVariants.{Octet}
-use Rattle.station.specs.Scripts.{calls_of}
 use Rattle.scripts.specs.Numerals.{octet_of}
 use Rattle.scripts.specs.Text.{words_of}
 use Rattle.scripts.specs.Lines.{line_said}
@@ -13,7 +12,6 @@ use Rattle.scripts.specs.declared.line.Line.{Line}
 use Rattle.scripts.specs.declared.line.Line.TheVariants.{Memory, Station, Call as ACall, Octets}
 use Rattle.scripts.specs.declared.script.Item.{Item}
 use Rattle.scripts.specs.declared.script.Item.TheVariants.{Call as Told, Unreadable}
-use Rattle.scripts.specs.declared.script.Script.{Script}
 
 -- the set-up, the calls so far, and what has a line of output
 pub record Held : Type 0 where
@@ -21,9 +19,6 @@ pub record Held : Type 0 where
   pub number : Option ℕ
   pub calls : List Call
   pub items : List Item
-
-abbrev pub held : Script → Held
-held s = record { kind = s.kind; number = s.number; calls = calls_of s.entries.items; items = s.items.items }
 
 -- a script of no lines
 abbrev pub nothing : Held
@@ -88,3 +83,8 @@ pub record GoesOn (old new : Held) : Type 0 where
   pub number : new.number ≡ old.number
   pub calls : take (length old.calls) new.calls ≡ old.calls
   pub items : take (length old.items) new.items ≡ old.items
+
+-- what is held after a step: what the step makes of the old, or what goes on from the old if the heap has no room
+abbrev pub Leaves : {E : Type 0} → Result (Unit {0}) E → (step : Held → Held) → (old new : Held) → Type 0
+Leaves (Ok done) step old new = new ≡ step old
+Leaves (Err error) step old new = GoesOn old new

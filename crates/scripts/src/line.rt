@@ -1,7 +1,7 @@
 // What a line of a script says.
 ghost use Rattle.std.specs.Prelude.{◌≡◌, IfOk};
 ghost use Rattle.scripts.specs.Text.{words_of, texts_of};
-ghost use Rattle.scripts.specs.Lines.{verdict_named, frame_named, octet_said, end_said, read_said, write_said, call_named, memory_named, station_said, said_of, line_said};
+ghost use Rattle.scripts.specs.Lines.{verdict_named, frame_named, call_named, memory_named, station_said, said_of, line_said};
 
 use crate::words::{number, octet, short};
 use frame::progress::Verdict;
@@ -36,12 +36,13 @@ pub fn words_of(heap: Global, text: &str) -> Result<Vec<&str>, AllocError>
 pub fn line_of(words: &[&str], own: u16) -> Option<Line>
     ensures { result ≡ line_said (texts_of words.now) own }
 {
-    match *words {
+    match words {
         [] => None,
-        [name, ref words @ ..] => said_of(name, words, own),
+        [name, words @ ..] => said_of(name, words, own),
     }
 }
 
+// `own` goes beside the words: they get fewer at each step, so a struct of both would be made anew at each.
 fn said_of(name: &str, words: &[&str], own: u16) -> Option<Line>
     ensures { result ≡ said_of name.now (texts_of words.now) own }
 {
@@ -56,14 +57,17 @@ fn said_of(name: &str, words: &[&str], own: u16) -> Option<Line>
 fn memory_of(words: &[&str]) -> Option<Kind>
     ensures { result ≡ memory_named (texts_of words.now) }
 {
-    match *words {
-        [kind, octets] if kind == "octets" => Some(Kind::Octets {
+    let [kind, sizes @ ..] = words else {
+        return None;
+    };
+    match (*kind, sizes) {
+        ("octets", [octets]) => Some(Kind::Octets {
             octets: number(octets)?,
         }),
-        [kind, words] if kind == "words" => Some(Kind::Words {
+        ("words", [words]) => Some(Kind::Words {
             words: number(words)?,
         }),
-        [kind, octets, words] if kind == "joined" => Some(Kind::Joined {
+        ("joined", [octets, words]) => Some(Kind::Joined {
             octets: number(octets)?,
             words: number(words)?,
         }),
@@ -74,7 +78,7 @@ fn memory_of(words: &[&str]) -> Option<Kind>
 fn station_of(words: &[&str]) -> Option<u16>
     ensures { result ≡ station_said (texts_of words.now) }
 {
-    match *words {
+    match words {
         [number] => short(number),
         _ => None,
     }
@@ -83,56 +87,20 @@ fn station_of(words: &[&str]) -> Option<u16>
 fn call_of(name: &str, words: &[&str], own: u16) -> Option<Call>
     ensures { result ≡ call_named name.now (texts_of words.now) own }
 {
-    match name {
-        "begin" if words.is_empty() => Some(Call::Begin),
-        "octet" => octet_call(words, own),
-        "end" => end_call(words, own),
-        "read" => read_call(words),
-        "write" => write_call(words),
-        _ => None,
-    }
-}
-
-fn octet_call(words: &[&str], own: u16) -> Option<Call>
-    ensures { result ≡ octet_said (texts_of words.now) own }
-{
-    let [word, ref of @ ..] = *words else {
-        return None;
-    };
-    Some(Call::Octet {
-        frame: frame_of(of, own)?,
-        octet: octet(word)?,
-    })
-}
-
-fn end_call(words: &[&str], own: u16) -> Option<Call>
-    ensures { result ≡ end_said (texts_of words.now) own }
-{
-    let [word, ref of @ ..] = *words else {
-        return None;
-    };
-    Some(Call::End {
-        frame: frame_of(of, own)?,
-        verdict: verdict_of(word)?,
-    })
-}
-
-fn read_call(words: &[&str]) -> Option<Call>
-    ensures { result ≡ read_said (texts_of words.now) }
-{
-    match *words {
-        [address] => Some(Call::Read {
+    match (name, words) {
+        ("begin", []) => Some(Call::Begin),
+        ("octet", [word, of @ ..]) => Some(Call::Octet {
+            frame: frame_of(of, own)?,
+            octet: octet(word)?,
+        }),
+        ("end", [word, of @ ..]) => Some(Call::End {
+            frame: frame_of(of, own)?,
+            verdict: verdict_of(word)?,
+        }),
+        ("read", [address]) => Some(Call::Read {
             address: u32::from(short(address)?),
         }),
-        _ => None,
-    }
-}
-
-fn write_call(words: &[&str]) -> Option<Call>
-    ensures { result ≡ write_said (texts_of words.now) }
-{
-    match *words {
-        [address, word] => Some(Call::Write {
+        ("write", [address, word]) => Some(Call::Write {
             address: u32::from(short(address)?),
             octet: octet(word)?,
         }),
@@ -144,9 +112,10 @@ fn write_call(words: &[&str]) -> Option<Call>
 fn frame_of(words: &[&str], own: u16) -> Option<u16>
     ensures { result ≡ frame_named (texts_of words.now) own }
 {
-    match *words {
+    // A guard: a literal inside a slice pattern leaves no fact where it does not match.
+    match words {
         [] => Some(own),
-        [word, number] if word == "of" => short(number),
+        [word, number] if *word == "of" => short(number),
         _ => None,
     }
 }

@@ -1,8 +1,7 @@
 // Playing the text of a script: the calls of its lines on a new station, what each answers, and what the memory holds at the end.
 ghost use Rattle.std.specs.Prelude.{◌≡◌, ◌+◌, ◌*◌, min, IfOk};
 ghost use Rattle.scripts.specs.Text.{texts_of};
-ghost use Rattle.scripts.specs.Scripts.{held, nothing};
-ghost use Rattle.scripts.specs.Played.{lines_of, with_lines, zeros, Performed, PerformedOn, Plays};
+ghost use Rattle.scripts.specs.Played.{lines_of, script_of, zeros, Performed, PerformedOn, Plays};
 
 use crate::line::Kind;
 use crate::script::{Item, Script};
@@ -11,14 +10,16 @@ use memory::joined::Joined;
 use memory::row::Row;
 use memory::words::Words;
 use memory::{LIMIT, Memory};
+use station::{Entry, replay};
 use std::alloc::{AllocError, Global};
 use std::fmt;
 
-// A script that was played, and the octets of its memory afterwards. Its text has a line for each call with its answer, one for each line of the
-// script that cannot be read, and the memory.
+// A script that was played: its calls with their answers, what has a line of output, and the octets of its memory afterwards. Its text has a line
+// for each call with its answer, one for each line of the script that cannot be read, and the memory.
 #[derive(Drop)]
 pub struct Played {
-    script: Script,
+    entries: Vec<Entry>,
+    items: Vec<Item>,
     octets: Vec<u8>,
 }
 
@@ -26,10 +27,7 @@ pub struct Played {
 pub fn play(heap: Global, text: &[u8]) -> Result<Played, AllocError>
     ensures { IfOk result (λ played. Plays text.now played) }
 {
-    let mut script = Script::new(heap);
-    take_lines(&mut script, heap, text)?;
-    let octets = perform(&mut script, heap)?;
-    Ok(Played { script, octets })
+    perform(script_of(heap, text)?, heap)
 }
 
 // What stands between line feeds.
@@ -39,14 +37,14 @@ fn lines_of(heap: Global, text: &[u8]) -> Result<Vec<&[u8]>, AllocError>
     text.split(|octet| *octet == b'\n').collect(heap)
 }
 
-fn take_lines(script: &mut Script, heap: Global, text: &[u8]) -> Result<(), AllocError>
-    ensures { IfOk result (λ done. held script.new ≡ with_lines (lines_of text.now) 1 (held script.old)) }
+fn script_of(heap: Global, text: &[u8]) -> Result<Script, AllocError>
+    ensures { IfOk result (λ script. script ≡ script_of text.now) }
 {
-    let lines = lines_of(heap, text)?;
-    for i in 0..lines.len() {
-        script.take(heap, lines[i], i as u64 + 1)?;
+    let mut script = Script::new(heap);
+    for (i, line) in lines_of(heap, text)?.iter().enumerate() {
+        script.take(heap, line, i as u64 + 1)?;
     }
-    Ok(())
+    Ok(script)
 }
 
 // As many cells as a script asks for, but no more than show that a memory is cut.
@@ -57,8 +55,8 @@ fn few(asked: u32) -> usize
 }
 
 // Makes the memory that the script asks for, all octets 0, and makes the calls on it.
-fn perform(script: &mut Script, heap: Global) -> Result<Vec<u8>, AllocError>
-    ensures { IfOk result (λ octets. Performed (held script.old) script.new octets.items) }
+fn perform(script: Script, heap: Global) -> Result<Played, AllocError>
+    ensures { IfOk result (λ played. Performed script played) }
 {
     match script.kind() {
         Kind::Octets { octets } => on_octets(script, heap, octets),
@@ -67,27 +65,22 @@ fn perform(script: &mut Script, heap: Global) -> Result<Vec<u8>, AllocError>
     }
 }
 
-fn on_octets(script: &mut Script, heap: Global, asked: u32) -> Result<Vec<u8>, AllocError>
-    ensures { IfOk result (λ octets. PerformedOn (zeros asked) (held script.old) script.new octets.items) }
+fn on_octets(script: Script, heap: Global, asked: u32) -> Result<Played, AllocError>
+    ensures { IfOk result (λ played. PerformedOn (zeros asked) script played) }
 {
     let mut row = vec![in heap; 0u8; few(asked)]?;
     perform_on(script, heap, Row::new(row.as_mut_slice()))
 }
 
-fn on_words(script: &mut Script, heap: Global, asked: u32) -> Result<Vec<u8>, AllocError>
-    ensures { IfOk result (λ octets. PerformedOn (zeros (2 * asked)) (held script.old) script.new octets.items) }
+fn on_words(script: Script, heap: Global, asked: u32) -> Result<Played, AllocError>
+    ensures { IfOk result (λ played. PerformedOn (zeros (2 * asked)) script played) }
 {
     let mut cells = vec![in heap; 0u16; few(asked)]?;
     perform_on(script, heap, Words::new(cells.as_mut_slice()))
 }
 
-fn on_both(
-    script: &mut Script,
-    heap: Global,
-    octets: u32,
-    words: u32,
-) -> Result<Vec<u8>, AllocError>
-    ensures { IfOk result (λ octets_after. PerformedOn (zeros (octets + 2 * words)) (held script.old) script.new octets_after.items) }
+fn on_both(script: Script, heap: Global, octets: u32, words: u32) -> Result<Played, AllocError>
+    ensures { IfOk result (λ played. PerformedOn (zeros (octets + 2 * words)) script played) }
 {
     let mut row = vec![in heap; 0u8; few(octets)]?;
     let mut cells = vec![in heap; 0u16; few(words)]?;
@@ -96,21 +89,34 @@ fn on_both(
     perform_on(script, heap, Joined::new(row, cells))
 }
 
+// Makes the calls on a new station over the memory.
 fn perform_on<M: Memory + Drop>(
-    script: &mut Script,
+    script: Script,
     heap: Global,
     memory: M,
-) -> Result<Vec<u8>, AllocError>
-    ensures { IfOk result (λ octets. PerformedOn (M.octets memory) (held script.old) script.new octets.items) }
+) -> Result<Played, AllocError>
+    ensures { IfOk result (λ played. PerformedOn (M.octets memory) script played) }
 {
-    let mut memory = script.play(memory);
-    octets_of(heap, &mut memory)
+    let number = script.number();
+    let Script {
+        mut entries,
+        items,
+        ..
+    } = script;
+    let mut memory = replay(memory, number, entries.as_mut_slice());
+    let octets = octets_of(heap, &mut memory)?;
+    Ok(Played {
+        entries,
+        items,
+        octets,
+    })
 }
 
 fn octets_of<M: Memory>(heap: Global, memory: &mut M) -> Result<Vec<u8>, AllocError>
     ensures { IfOk result (λ octets. octets.items ≡ M.octets memory.old) }
 {
     let mut octets = Vec::new(heap);
+    // Places of a memory: it has no slice to go over.
     for place in 0..memory.size() {
         if let Ok(octet) = memory.read(place as u32) {
             octets.push(octet)?;
@@ -123,17 +129,15 @@ fn octets_of<M: Memory>(heap: Global, memory: &mut M) -> Result<Vec<u8>, AllocEr
 const WIDTH: usize = 16;
 
 // A line for each call and for each line of the script that cannot be read.
-fn show_answers<W: fmt::Write>(script: &Script, f: &mut fmt::Formatter<W>) -> fmt::Result {
-    let entries = script.entries();
-    let mut next = 0usize;
-    for item in script.items() {
+fn show_answers<W: fmt::Write>(played: &Played, f: &mut fmt::Formatter<W>) -> fmt::Result {
+    let mut entries = played.entries().iter();
+    for item in played.items() {
         match *item {
             Item::Unreadable { line } => writeln!(f, "line {line}: cannot be read")?,
             Item::Call => {
-                if let Some(entry) = entries.get(next) {
+                if let Some(entry) = entries.next() {
                     writeln!(f, "{}: {}", Asked(entry.call), Answered(entry.answer))?;
                 }
-                next = next.saturating_add(1);
             }
         }
     }
@@ -156,12 +160,26 @@ fn show_row<W: fmt::Write>(first: usize, row: &[u8], f: &mut fmt::Formatter<W>) 
     for octet in row {
         write!(f, " {octet:02X}")?;
     }
-    writeln!(f, "")
+    writeln!(f)
+}
+
+impl Played {
+    fn entries(&self) -> &[Entry]
+        ensures { result.now ≡ self.now.entries.items }
+    {
+        self.entries.as_slice()
+    }
+
+    fn items(&self) -> &[Item]
+        ensures { result.now ≡ self.now.items.items }
+    {
+        self.items.as_slice()
+    }
 }
 
 impl fmt::Display for Played {
     fn fmt<W: fmt::Write>(&self, f: &mut fmt::Formatter<W>) -> fmt::Result {
-        show_answers(&self.script, f)?;
+        show_answers(self, f)?;
         show_memory(self.octets.as_slice(), f)
     }
 }

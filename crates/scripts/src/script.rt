@@ -1,39 +1,44 @@
 // A whole script: the set-up, the calls in order, and which lines cannot be read.
-ghost use Rattle.std.specs.Prelude.{◌≡◌, [], ◌∷◌, length, OnOk, OnErr, is_some};
+ghost use Rattle.std.specs.Prelude.{◌≡◌, [], ◌∷◌, OnErr, is_some};
 ghost use Rattle.std.specs.List.{list_all};
-ghost use Rattle.scripts.specs.Numerals.{octet_of};
 ghost use Rattle.std.specs.Option.{unwrap_or};
-ghost use Rattle.rules.specs.Steps.{station as new_station, runs, history};
-ghost use Rattle.rules.specs.Promise.{Promise};
-ghost use Rattle.station.specs.Scripts.{calls_of, told};
+ghost use Rattle.station.specs.Scripts.{calls_of};
+ghost use Rattle.scripts.specs.Numerals.{octet_of};
 ghost use Rattle.scripts.specs.Text.{texts_of};
-ghost use Rattle.scripts.specs.Scripts.{held, nothing, refused, with_calls, with_memory, with_number, are_octets, with_octets, with_words, with_text, with_line, GoesOn};
+ghost use Rattle.scripts.specs.Scripts.{Held, nothing, own_number, refused, with_calls, with_memory, with_number, are_octets, with_octets, with_words, with_text, with_line, Leaves};
 
 use crate::line::{Kind, Line, line_of, words_of};
 use crate::words::octet;
-use memory::Memory;
 use rules::data::{Answer, Call};
-use station::{Entry, replay};
+use station::Entry;
 use std::alloc::{AllocError, Global};
+use std::marker::Model;
 
-// What has a line of output: the next of the calls, or a line that cannot be read.
+// What has a line of output: the next of the calls, or a line that cannot be read. (`replay` takes the calls as one slice of their own.)
 #[derive(Clone, Copy)]
 pub enum Item {
     Call,
     Unreadable { line: u64 },
 }
 
+// A contract sees a script as what it holds before it is played: of its entries, the calls.
 #[derive(Drop)]
 pub struct Script {
     kind: Option<Kind>,
     number: Option<u16>,
-    entries: Vec<Entry>,
-    items: Vec<Item>,
+    pub(crate) entries: Vec<Entry>,
+    pub(crate) items: Vec<Item>,
+}
+
+impl Model for Script {
+    ghost Value = { Held };
+
+    ghost view = { λ s. record { kind = s.kind; number = s.number; calls = calls_of s.entries.items; items = s.items.items } };
 }
 
 impl Script {
     pub fn new(heap: Global) -> Script
-        ensures { held result ≡ nothing }
+        ensures { result ≡ nothing }
     {
         Script {
             kind: None,
@@ -51,40 +56,14 @@ impl Script {
 
     // The station's number.
     pub fn number(&self) -> u16
-        ensures { result ≡ unwrap_or self.now.number 1 }
+        ensures { result ≡ own_number self.now }
     {
         self.number.unwrap_or(1)
     }
 
-    // The calls in order, each with its answer once the script is played.
-    pub fn entries(&self) -> &[Entry]
-        ensures { result.now ≡ self.now.entries.items }
-    {
-        self.entries.as_slice()
-    }
-
-    pub fn items(&self) -> &[Item]
-        ensures { result.now ≡ self.now.items.items }
-    {
-        self.items.as_slice()
-    }
-
-    // Plays the calls on a new station over the memory, and gives the memory back.
-    pub fn play<M: Memory>(&mut self, memory: M) -> M
-        ensures answers { told self.new.entries.items ≡ history (new_station (M.octets memory) (unwrap_or self.old.number 1)) (calls_of self.old.entries.items) }
-        ensures after { M.octets result ≡ (runs (new_station (M.octets memory) (unwrap_or self.old.number 1)) (calls_of self.old.entries.items)).octets }
-        ensures promise { Promise (length (M.octets memory)) (unwrap_or self.old.number 1) (told self.new.entries.items) }
-        ensures kind { self.new.kind ≡ self.old.kind }
-        ensures number { self.new.number ≡ self.old.number }
-        ensures items { self.new.items.items ≡ self.old.items.items }
-    {
-        replay(memory, self.number(), self.entries.as_mut_slice())
-    }
-
     // Takes the next line, the octets of it that are no text included. A line that begins with # says nothing.
     pub fn take(&mut self, heap: Global, line: &[u8], count: u64) -> Result<(), AllocError>
-        ensures ok { OnOk result (held self.new ≡ with_line line.now count (held self.old)) }
-        ensures err { OnErr result (GoesOn (held self.old) (held self.new)) }
+        ensures { Leaves result (with_line line.now count) self.old self.new }
     {
         if line.starts_with(b"#") {
             return Ok(());
@@ -93,8 +72,7 @@ impl Script {
     }
 
     fn take_text(&mut self, heap: Global, line: &[u8], count: u64) -> Result<(), AllocError>
-        ensures ok { OnOk result (held self.new ≡ with_text line.now count (held self.old)) }
-        ensures err { OnErr result (GoesOn (held self.old) (held self.new)) }
+        ensures { Leaves result (with_text line.now count) self.old self.new }
     {
         match std::str::from_utf8(line) {
             Ok(text) => self.take_words(&words_of(heap, text)?, count),
@@ -104,8 +82,7 @@ impl Script {
 
     // A blank line says nothing.
     fn take_words(&mut self, words: &[&str], count: u64) -> Result<(), AllocError>
-        ensures ok { OnOk result (held self.new ≡ with_words (texts_of words.now) count (held self.old)) }
-        ensures err { OnErr result (GoesOn (held self.old) (held self.new)) }
+        ensures { Leaves result (with_words (texts_of words.now) count) self.old self.new }
     {
         if words.is_empty() {
             return Ok(());
@@ -119,9 +96,10 @@ impl Script {
         }
     }
 
+    // The number is taken alike: a helper for both would be handed a field, its value and the test of the calls, and its callers be no shorter.
     fn take_memory(&mut self, kind: Kind, count: u64) -> Result<(), AllocError>
-        ensures ok { OnOk result (held self.new ≡ with_memory kind count (held self.old)) }
-        ensures err { OnErr result (held self.new ≡ held self.old) }
+        ensures leaves { Leaves result (with_memory kind count) self.old self.new }
+        ensures err { OnErr result (self.new ≡ self.old) }
     {
         if self.kind.is_some() || !self.entries.is_empty() {
             return self.refuse(count);
@@ -131,8 +109,8 @@ impl Script {
     }
 
     fn take_number(&mut self, number: u16, count: u64) -> Result<(), AllocError>
-        ensures ok { OnOk result (held self.new ≡ with_number number count (held self.old)) }
-        ensures err { OnErr result (held self.new ≡ held self.old) }
+        ensures leaves { Leaves result (with_number number count) self.old self.new }
+        ensures err { OnErr result (self.new ≡ self.old) }
     {
         if self.number.is_some() || !self.entries.is_empty() {
             return self.refuse(count);
@@ -143,8 +121,7 @@ impl Script {
 
     // A call for each octet of the line, or none if one of them cannot be read.
     fn take_octets(&mut self, words: &[&str], count: u64) -> Result<(), AllocError>
-        ensures ok { OnOk result (held self.new ≡ with_octets (texts_of words.now) count (held self.old)) }
-        ensures err { OnErr result (GoesOn (held self.old) (held self.new)) }
+        ensures { Leaves result (with_octets (texts_of words.now) count) self.old self.new }
     {
         if !are_octets(words) {
             return self.refuse(count);
@@ -159,8 +136,7 @@ impl Script {
     }
 
     fn push(&mut self, call: Call) -> Result<(), AllocError>
-        ensures ok { OnOk result (held self.new ≡ with_calls (call ∷ []) (held self.old)) }
-        ensures err { OnErr result (GoesOn (held self.old) (held self.new)) }
+        ensures { Leaves result (with_calls (call ∷ [])) self.old self.new }
     {
         let answer = Answer::Running;
         self.entries.push(Entry { call, answer })?;
@@ -169,8 +145,8 @@ impl Script {
     }
 
     fn refuse(&mut self, line: u64) -> Result<(), AllocError>
-        ensures ok { OnOk result (held self.new ≡ refused line (held self.old)) }
-        ensures err { OnErr result (held self.new ≡ held self.old) }
+        ensures leaves { Leaves result (refused line) self.old self.new }
+        ensures err { OnErr result (self.new ≡ self.old) }
     {
         self.items.push(Item::Unreadable { line })?;
         Ok(())

@@ -13,6 +13,7 @@ pub struct Asked(pub Call);
 #[derive(Clone, Copy)]
 pub struct Answered(pub Answer);
 
+// Two types for what came of an access: one over both would need a trait for what is told of an octet and of `()`, and be no shorter.
 #[derive(Clone, Copy)]
 struct Fetched(Outcome<u8, Fault>);
 

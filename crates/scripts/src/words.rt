@@ -1,38 +1,48 @@
 // Numbers and octets as a script spells them.
-ghost use Rattle.std.specs.Prelude.{◌≡◌, ◌≤◌};
-ghost use Rattle.scripts.specs.Numerals.{digit_of, value_from, numeral_of, number_of, below, octet_of};
+ghost use Rattle.std.specs.Prelude.{◌≡◌};
+ghost use Rattle.scripts.specs.Numerals.{radix_of, digit_of, value_from, numeral_of, number_of, below, octet_of};
 
-fn digit(byte: u8, radix: u32) -> Option<u32>
-    requires { (2 ≤ radix) × (radix ≤ 16) }
-    ensures { result ≡ digit_of radix byte }
-{
-    char::from(byte).to_digit(radix)
+// The base of a numeral.
+#[derive(Clone, Copy)]
+enum Base {
+    Decimal = 10,
+    Hexadecimal = 16,
 }
 
-// The value of digits to the base 10 or 16; what is beyond 32 bits counts as their largest.
-fn value(digits: &[u8], radix: u32) -> Option<u32>
-    requires { (2 ≤ radix) × (radix ≤ 16) }
-    ensures { result ≡ value_from radix 0 digits.now }
+impl Base {
+    fn radix(self) -> u32
+        ensures { result ≡ radix_of self }
+    {
+        self as u32
+    }
+
+    fn digit(self, octet: u8) -> Option<u32>
+        ensures { result ≡ digit_of (radix_of self) octet }
+    {
+        char::from(octet).to_digit(self.radix())
+    }
+}
+
+// The value of digits; what is beyond 32 bits counts as their largest.
+fn value(digits: &[u8], base: Base) -> Option<u32>
+    ensures { result ≡ value_from (radix_of base) 0 digits.now }
 {
     let mut value = 0u32;
-    for i in 0..digits.len() {
-        let Some(digit) = digit(digits[i], radix) else {
-            return None;
-        };
-        value = value.saturating_mul(radix).saturating_add(digit);
+    for octet in digits {
+        let digit = base.digit(*octet)?;
+        value = value.saturating_mul(base.radix()).saturating_add(digit);
     }
     Some(value)
 }
 
 // At least one digit, and nothing else.
-fn numeral(digits: &[u8], radix: u32) -> Option<u32>
-    requires { (2 ≤ radix) × (radix ≤ 16) }
-    ensures { result ≡ numeral_of radix digits.now }
+fn numeral(digits: &[u8], base: Base) -> Option<u32>
+    ensures { result ≡ numeral_of (radix_of base) digits.now }
 {
     if digits.is_empty() {
         None
     } else {
-        value(digits, radix)
+        value(digits, base)
     }
 }
 
@@ -40,11 +50,9 @@ fn numeral(digits: &[u8], radix: u32) -> Option<u32>
 pub fn number(word: &str) -> Option<u32>
     ensures { result ≡ number_of word.now }
 {
-    let bytes = word.as_bytes();
-    if bytes.starts_with(b"0x") {
-        numeral(&bytes[2..], 16)
-    } else {
-        numeral(bytes, 10)
+    match word.as_bytes() {
+        [b'0', b'x', digits @ ..] => numeral(digits, Base::Hexadecimal),
+        digits => numeral(digits, Base::Decimal),
     }
 }
 
@@ -52,10 +60,7 @@ pub fn number(word: &str) -> Option<u32>
 pub fn short(word: &str) -> Option<u16>
     ensures { result ≡ below 65536 (number_of word.now) }
 {
-    match number(word) {
-        Some(number) if number < 65536 => Some(number as u16),
-        _ => None,
-    }
+    u16::try_from(number(word)?).ok()
 }
 
 // An octet: two hexadecimal digits.
@@ -65,8 +70,5 @@ pub fn octet(word: &str) -> Option<u8>
     if word.len() != 2 {
         return None;
     }
-    match numeral(word.as_bytes(), 16) {
-        Some(octet) if octet < 256 => Some(octet as u8),
-        _ => None,
-    }
+    u8::try_from(numeral(word.as_bytes(), Base::Hexadecimal)?).ok()
 }

@@ -3,7 +3,6 @@ use Rattle.memory.specs.Cuts.{counted, joined}
 use Rattle.memory.specs.Halves.{halves}
 use Rattle.memory.specs.declared.row.Row.{Row}
 use Rattle.memory.specs.declared.words.Words.{Words}
-use Rattle.scripts.specs.Scripts.{held}
 use Rattle.scripts.specs.Played.{PerformedOn}
 use Rattle.scripts.proofs.Zeros.{cells, both_zeros}
 use Rattle.scripts.proofs.played.on_both.Goals as goal
@@ -16,5 +15,5 @@ returns c =
     let words =
     ap (λ (w : Words). w.cells.now) c.new.ensures.second
     ∙ (c.new-cells.ensures ∙ (c.as_mut_slice-2.ensures.value ∙ (c.in_ok-cells.ensures.items_if_clones_equal (λ y h. h) ∙ ap cells c.few-2.ensures))) in
-    subst (λ memory. IfOk c.perform_on.result (λ octets. PerformedOn memory (held c.args.script.now) c.perform_on.new.script octets.items))
+    subst (λ memory. IfOk c.perform_on.result (λ played. PerformedOn memory c.args.script played))
     ((λ i. joined (counted 61440 (row i)) (halves (counted 30720 (words i)))) ∙ both_zeros c.args.octets c.args.words) c.perform_on.ensures
