@@ -96,16 +96,15 @@ fn found_among(entities: &[Entity], direction: Direction, address: u64) -> Acces
 {
     let mut found = Accesses::new();
     let mut free = 0xff;
-    let mut next = 0;
-    while free != 0 {
-        let Some(step) = lowest_in(&entities[next..], address) else {
-            return found;
-        };
-        let entity = entities[next + step];
+    let mut rest = entities;
+    while free != 0
+        && let Some(index) = lowest_in(rest, address)
+    {
+        let entity = &rest[index];
         let covered = entity.bits_covered(direction).in_octet(address);
         entity.push_bits(address, covered & free, &mut found);
         free &= !covered;
-        next += step + 1;
+        rest = &rest[index + 1..];
     }
     found
 }
