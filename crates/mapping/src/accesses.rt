@@ -53,8 +53,8 @@ impl Entity {
         ensures place { result ≡ lands self.now (8 * address) }
         ensures small { result < 2 ^ 21 }
     {
-        let place = 8 * (self.physical as u64 + address) + (self.physical_bit % 8) as u64;
-        place.saturating_sub(8 * self.logical as u64 + (self.start_bit % 8) as u64) as u32
+        let place = 8 * (u64::from(self.physical) + address) + u64::from(self.physical_bit % 8);
+        place.saturating_sub(8 * u64::from(self.logical) + u64::from(self.start_bit % 8)) as u32
     }
 }
 
@@ -68,7 +68,7 @@ impl Span for Entity {
         if self.length == 0 {
             1
         } else {
-            self.logical as u64
+            u64::from(self.logical)
         }
     }
 
@@ -76,7 +76,7 @@ impl Span for Entity {
         if self.length == 0 {
             0
         } else {
-            self.logical as u64 + self.length as u64 - 1
+            u64::from(self.logical) + u64::from(self.length) - 1
         }
     }
 }
