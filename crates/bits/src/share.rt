@@ -44,12 +44,14 @@ impl Share {
     }
 }
 
+#[tactic(auto, using(crate::proofs::Turns::laid_is))]
 fn part_laid(bits: u8, turn: u8, octet: u8, fetched: u8) -> u8
     ensures { result ≡ laid (Part bits turn) octet fetched }
 {
     (octet & !bits) | (fetched.rotate_right(u32::from(turn)) & bits)
 }
 
+#[tactic(auto, using(crate::proofs::Turns::stored_is))]
 fn part_stored(bits: u8, turn: u8, old: u8, octet: u8) -> u8
     ensures { result ≡ stored (Part bits turn) old octet }
 {
@@ -58,6 +60,7 @@ fn part_stored(bits: u8, turn: u8, old: u8, octet: u8) -> u8
 }
 
 // Bits stored and fetched again come back, and no other bit moves.
+#[tactic(auto, using(crate::proofs::Turns::bits_come_back))]
 pub fn bits_come_back()
     ensures { AllBitsComeBack }
 {}
