@@ -124,7 +124,7 @@ impl<M: Memory> Station<M> {
         ensures after { self.new.station ≡ (step self.old.station (OctetCall frame.now.number octet)).0 }
         ensures answer { octet_as result ≡ (step self.old.station (OctetCall frame.now.number octet)).1 }
     {
-        match mine(self.core.number, frame.number, self.core.running) {
+        match mine(&self.core, frame.number) {
             None => Err(refused(Reason::NoSuchFrame, 0)),
             Some(running) => self.octet_given(running, octet),
         }
@@ -189,7 +189,7 @@ impl<M: Memory> Station<M> {
         ensures back { Same frame result }
     {
         let handed = frame.number;
-        match mine(self.core.number, handed, self.core.running) {
+        match mine(&self.core, handed) {
             None => Err(EndRefusal::NotThisFrame(frame)),
             Some(running) => {
                 let Frame { number: _ } = frame;
