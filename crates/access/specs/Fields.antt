@@ -1,5 +1,5 @@
 -- Register fields of several octets, the low octet first; w is how many octets a field has. Assumes nothing.
-use Rattle.std.specs.Prelude.{◌≡◌, ℕ, zero, suc, ◌+◌, ◌*◌, ◌/◌, ◌%◌, ◌^◌, ◌<◌, ◌≢◌, List, [], ◌∷◌, slice_index, slice_set}
+use Rattle.std.specs.Prelude.{◌≡◌, ℕ, zero, suc, Bool, true, false, ◌+◌, ◌*◌, ◌/◌, ◌%◌, ◌^◌, ◌<◌, ◌≢◌, List, [], ◌∷◌, slice_index, slice_set}
 
 -- the octets of a field, and the field of some octets
 abbrev pub octets_of : (w n : ℕ) → List ℕ
@@ -9,6 +9,11 @@ octets_of (suc w) n = n % 256 ∷ octets_of w (n / 256)
 abbrev pub field_of : List ℕ → ℕ
 field_of [] = 0
 field_of (x ∷ xs) = x + 256 * field_of xs
+
+-- a flag as a bit of its octet
+abbrev pub bit : Bool → ℕ
+bit true = 1
+bit false = 0
 
 -- octet i of a field, 0 past its last octet
 abbrev pub octet_at : (w n i : ℕ) → ℕ

@@ -15,7 +15,7 @@ use Rattle.channel.specs.declared.service.Shown.{Shown}
 use Rattle.channel.specs.declared.service.Shown.TheVariants.{Nothing, Ready, Fetch}
 use Rattle.channel.specs.declared.service.Service.{Service}
 use Rattle.channel.specs.Facts.{is_master}
-use Rattle.channel.specs.Settings.{bit}
+use Rattle.access.specs.Fields.{bit}
 use Rattle.channel.specs.Windows.{place_in}
 
 -- TRANSACTIONS. The octets that an open one has taken (0: none is open), has the running frame accessed it, has it closed it.

@@ -1,6 +1,6 @@
 -- The register octets of a channel, and the window that they ask for. Assumes nothing.
-use Rattle.std.specs.Prelude.{◌≡◌, ℕ, ◌-◌, ◌/◌, ◌%◌, ◌<◌, Bool, true, false, cond, ◌≢◌, Some, None, Option, ◌==◌, nat_lt}
-use Rattle.access.specs.Fields.{octet_at, with_octet}
+use Rattle.std.specs.Prelude.{◌≡◌, ℕ, ◌-◌, ◌/◌, ◌%◌, ◌<◌, cond, ◌≢◌, Some, None, Option, ◌==◌, nat_lt}
+use Rattle.access.specs.Fields.{bit, octet_at, with_octet}
 use Rattle.access.specs.declared.Side.{Side}
 use Rattle.access.specs.declared.Side.TheVariants.{Master, Local}
 use Rattle.channel.specs.declared.setting.Kind.{Kind}
@@ -9,11 +9,6 @@ use Rattle.channel.specs.declared.setting.Setting.{Setting}
 use Rattle.channel.specs.declared.setting.Window.{Window}
 use Rattle.channel.specs.declared.setting.Denial.{Denial}
 use Rattle.channel.specs.declared.setting.Denial.TheVariants.{Control, Length, Memory, Overlap}
-
--- a truth value as a bit
-abbrev pub bit : Bool → ℕ
-bit true = 1
-bit false = 0
 
 -- Octets 0–1 start, 2–3 length, 4 control, 5 status, 6 enable, 7 is 0.
 abbrev pub octet_of : Setting → (status index : ℕ) → ℕ

@@ -15,7 +15,7 @@ use Rattle.channel.specs.declared.service.Roles.{Roles}
 use Rattle.channel.specs.declared.service.Shown.{Shown}
 use Rattle.channel.specs.declared.service.Shown.TheVariants.{Nothing, Ready, Fetch}
 use Rattle.channel.specs.declared.service.Service.{Service}
-use Rattle.channel.specs.Settings.{bit}
+use Rattle.access.specs.Fields.{bit}
 use Rattle.channel.specs.Facts.{is_master, right_way, taken_of, opens, asked}
 use Rattle.channel.specs.Services.{present, facts_of, fetch_place, shown_number, kind_bits, status_of}
 use Rattle.channel_law.specs.Story.{Accesses, Story, new_story, taken_in, none, closed_writing, closed_reading, message_told, facts_told}

@@ -11,7 +11,7 @@ use Rattle.channel.specs.declared.facts.Refusal.{Refusal}
 use Rattle.channel.specs.declared.facts.Refusal.TheVariants.{AlreadyClosed, MailboxFull, MailboxEmpty, NothingWritten}
 use Rattle.channel.specs.Facts.{right_way, taken_of, asked}
 use Rattle.channel.specs.Windows.{in_memory}
-use Rattle.channel.specs.Settings.{bit}
+use Rattle.access.specs.Fields.{bit}
 use Rattle.channel.specs.Services.{status_of}
 use Rattle.channel_law.specs.Sound.{Sound}
 use Rattle.channel_law.specs.Story.{Accesses, Reading, Story, new_story, taken_in, none, closed_writing, closed_reading, message_told, facts_told}

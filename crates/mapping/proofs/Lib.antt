@@ -1,4 +1,3 @@
-pub mod Arrays
 pub mod Landed
 pub mod Masks
 pub mod Ranges

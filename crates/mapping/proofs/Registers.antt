@@ -2,10 +2,10 @@
 use Rattle.std.proofs.Common.{◌≡◌, ℕ, ◌+◌, ◌-◌, ◌*◌, ◌/◌, ◌%◌, ◌<◌, ◌≤◌, Bool, true, false, cond, ◌&&◌, eqb, ltb, leb, ◌≢◌, refl, ap, ◌∙◌, arith}
 use Rattle.std.proofs.lemmas.Bool.{ltb-true, ltb-false, eqb-true, lt-ltb, both_ways}
 use Rattle.std.proofs.lemmas.Bool.Decides.{nat_tests}
-use Rattle.access.specs.Fields.{octet_at, with_octet}
+use Rattle.access.specs.Fields.{bit, octet_at, with_octet}
 use Rattle.access.proofs.Fields.{reads-back}
 use Rattle.mapping.specs.declared.entity.Entity.{Entity}
-use Rattle.mapping.specs.Registers.{part_of, entity_octet, with_entity_octet, kept, bit, EntitiesReadBack}
+use Rattle.mapping.specs.Registers.{part_of, entity_octet, with_entity_octet, kept, EntitiesReadBack}
 
 -- under each answer of a test
 both : (t : Bool) (x y x' y' : ℕ) → (t ≡ true → x ≡ x') → (t ≡ false → y ≡ y') → cond t x y ≡ cond t x' y'

@@ -1,13 +1,10 @@
 -- The sixteen register octets of an entity. Assumes nothing.
-use Rattle.std.specs.Prelude.{◌≡◌, ℕ, ◌+◌, ◌-◌, ◌*◌, ◌/◌, ◌%◌, ◌<◌, Bool, false, cond, ◌&&◌, ◌≢◌, ◌==◌, nat_le, nat_lt}
-use Rattle.access.specs.Fields.{octet_at, with_octet}
+use Rattle.std.specs.Prelude.{◌≡◌, ℕ, ◌+◌, ◌-◌, ◌*◌, ◌/◌, ◌%◌, ◌<◌, false, cond, ◌&&◌, ◌≢◌, ◌==◌, nat_le, nat_lt}
+use Rattle.access.specs.Fields.{bit, octet_at, with_octet}
 use Rattle.mapping.specs.declared.entity.Entity.{Entity}
 
 abbrev pub no_entity : Entity
 no_entity = record { logical = 0; length = 0; start_bit = 0; stop_bit = 0; physical = 0; physical_bit = 0; reads = false; writes = false; active = false }
-
-abbrev pub bit : Bool → ℕ
-bit b = cond b 1 0
 
 -- the part that octet i belongs to: 0–3 logical start, 4–5 length, 6 start bit, 7 stop bit, 8–9 physical start, 10 physical bit, 11 type,
 -- 12 active, and nothing

@@ -1,5 +1,5 @@
 use Rattle.std.proofs.Common.{rules}
-use Rattle.mapping.proofs.Arrays.{map_same}
+use Rattle.access.proofs.Arrays.{map_same}
 use Rattle.rules.specs.Steps.{out_of_service, dropped_channel}
 use Rattle.core_steps.proofs.enabling.dropped_channels.Goals as goal
 

@@ -1,5 +1,5 @@
 use Rattle.std.proofs.Common.{rules}
-use Rattle.mapping.proofs.Arrays.{map_same}
+use Rattle.access.proofs.Arrays.{map_same}
 use Rattle.mapping.specs.Mapping.{bits_covered}
 use Rattle.mapping.specs.Registers.{no_entity}
 use Rattle.mapping.proofs.serving.ranges.Goals as goal
