@@ -4,6 +4,7 @@ use Rattle.std.proofs.lemmas.Bool.{eq-eqb, cond-true}
 use Rattle.std.specs.Option.{option_map}
 use Rattle.memory.specs.Octets.{read_of, write_of}
 use Rattle.memory.specs.declared.fault.MemoryFault.{MemoryFault}
+use Rattle.access.specs.declared.Side.TheVariants.{Local}
 use Rattle.access.specs.declared.Direction.TheVariants.{Read, Write}
 use Rattle.bits.specs.declared.share.Share.{Share}
 use Rattle.channel.specs.declared.service.Service.{Service}
@@ -16,9 +17,9 @@ use Rattle.rules.specs.declared.data.Access.{Access}
 use Rattle.rules.specs.declared.data.Target.{Target}
 use Rattle.rules.specs.declared.data.Target.TheVariants.{Register, Free, Window}
 use Rattle.rules.specs.declared.data.Running.{Running}
-use Rattle.rules.specs.declared.data.Call.TheVariants.{Octet, End}
-use Rattle.rules.specs.Octets.{accesses_of, mine}
-use Rattle.rules.specs.Steps.{Station, Reply, Reads, Writes, service_at, asked_of, fetch_in, store_in, fetch_free, store_free, fetch_window, store_window, fetched, stored_by, reads, writes, read_one, read_all, write_one, write_all, reads_from, writes_from, octet_step, end_of, end_step, step, no_such_frame}
+use Rattle.rules.specs.declared.data.Call.TheVariants.{Octet, End, Read as ReadCall, Write as WriteCall}
+use Rattle.rules.specs.Octets.{plain, accesses_of, mine}
+use Rattle.rules.specs.Steps.{Station, Reply, Reads, Writes, service_at, asked_of, fetch_in, store_in, fetch_free, store_free, fetch_window, store_window, fetched, stored_by, reads, writes, read_one, read_all, write_one, write_all, reads_from, writes_from, octet_step, end_of, end_step, read_step, write_step, step, no_such_frame}
 use Rattle.station.specs.declared.token.Frame.{Frame}
 use Rattle.station.specs.declared.token.EndRefusal.{EndRefusal}
 use Rattle.station.specs.declared.token.EndRefusal.TheVariants.{NotThisFrame, Dropped}
@@ -65,11 +66,24 @@ target-written s x o (Ok (Register p)) = refl
 target-written s x o (Ok (Free p)) = free-written s x.share p o (read_of s.octets p)
 target-written s x o (Ok (Window n k)) = window-written s x.share n k _ o (service_at s.core.channels n)
 
-pub fetch_same : (s next : Station) (x : Access) (r : Result ℕ Fault) → reply next r ≡ reads s x → SameFrame s next
-fetch_same s next x r e = record { runs = ap (λ (t : Reply ℕ). runs_at t.after) e ∙ target-read s x (asked_of s x) }
+-- A LOCAL CALL leaves it.
+local-read : (t : Station) (r : Result ℕ Fault) → runs_at (read_step t r).0 ≡ runs_at t
+local-read t (Ok v) = refl
+local-read t (Err f) = refl
 
-pub store_same : (s next : Station) (x : Access) (o : ℕ) (r : Result (Unit {0}) Fault) → reply next r ≡ writes s x o → SameFrame s next
-store_same s next x o r e = record { runs = ap (λ (t : Reply (Unit {0})). runs_at t.after) e ∙ target-written s x o (asked_of s x) }
+local-written : (t : Station) (a o : ℕ) (r : Result (Unit {0}) Fault) → runs_at (write_step t a o r).0 ≡ runs_at t
+local-written t a o (Ok u) = refl
+local-written t a o (Err f) = refl
+
+pub read_same : (s next : Station) (a : ℕ) → next ≡ (step s (ReadCall a)).0 → SameFrame s next
+read_same s next a goes =
+    let x : Access = plain Local Read a in
+    record { runs = ap runs_at goes ∙ local-read (reads s x).after (reads s x).says ∙ target-read s x (asked_of s x) }
+
+pub write_same : (s next : Station) (a o : ℕ) → next ≡ (step s (WriteCall a o)).0 → SameFrame s next
+write_same s next a o goes =
+    let x : Access = plain Local Write a in
+    record { runs = ap runs_at goes ∙ local-written (writes s x o).after a o (writes s x o).says ∙ target-written s x o (asked_of s x) }
 
 -- ALL ACCESSES of an octet leave it.
 one-read : (x : Access) (t : Reads) (s : Station) (r : Result ℕ Fault) → (read_one x t s r).after ≡ s

@@ -2,6 +2,7 @@
 use Rattle.std.specs.Prelude.{◌≡◌, ℕ, ◌≢◌, Some, None, Ok, Err, Option, Result}
 use Rattle.std.specs.Option.{option_map}
 use Rattle.frame.specs.declared.outcome.Outcome.{Outcome}
+use Rattle.frame.specs.declared.outcome.Outcome.TheVariants.{NotWanted, Done, Refused}
 use Rattle.rules.specs.declared.fault.Fault.{Fault}
 use Rattle.rules.specs.declared.fault.Fault.TheVariants.{Station as Refuses}
 use Rattle.rules.specs.declared.fault.Reason.TheVariants.{NoSuchFrame}
@@ -21,6 +22,12 @@ reply s r = record { after = s; says = r }
 -- the reads and the writes of an octet so far
 abbrev pub reads_so : Station → Gathered → Reads
 reads_so s g = record { after = s; gathered = g.gathered; shown = g.shown; outcome = g.outcome }
+
+-- the outcome so far, and that of one access more: the first refusal stands
+abbrev pub also : {X : Type 0} → Outcome X Fault → Outcome X Fault → Outcome X Fault
+also NotWanted y = y
+also (Done u) y = y
+also (Refused f) y = Refused f
 
 abbrev pub writes_so : Station → Outcome (Unit {0}) Fault → Writes
 writes_so s w = record { after = s; outcome = w }
