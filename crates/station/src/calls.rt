@@ -37,13 +37,12 @@ impl<M: Memory> Station<M> {
     pub fn new(memory: M, number: u16) -> Station<M>
         ensures { result.station ≡ new_station (M.octets memory) number }
     {
-        let channel = Channel { service: None };
         Station {
             core: Core {
                 number,
                 registers: no_registers(),
                 alias: 0,
-                channels: [channel; 8],
+                channels: [Channel { service: None }; 8],
                 running: None,
             },
             memory,

@@ -89,10 +89,9 @@ impl<M: Memory> Station<M> {
         also(so_far, stored.map_or_else(Outcome::Refused, Outcome::Done))
     }
 
-    fn read_mapped(&mut self, list: &[mapping::mapped::Access], none: Gathered) -> Gathered
-        ensures { reads_so self.new.station result ≡ read_all (reads_so self.old.station none) (map (through_mapping Reading) list.now) }
+    fn read_mapped(&mut self, list: &[mapping::mapped::Access], mut so_far: Gathered) -> Gathered
+        ensures { reads_so self.new.station result ≡ read_all (reads_so self.old.station so_far) (map (through_mapping Reading) list.now) }
     {
-        let mut so_far = none;
         for access in list {
             so_far = self.read_one(through_mapping(Direction::Read, *access), so_far);
         }

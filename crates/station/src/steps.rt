@@ -97,10 +97,8 @@ impl<M: Memory> Station<M> {
     pub(crate) fn octet_of_frame(&mut self, frame: &Frame, octet: u8) -> Result<OctetAnswer, Fault>
         ensures { (self.new.station, octet_as result) ≡ step self.old.station (OctetCall frame.now.number octet) }
     {
-        let running = mine(self.core.number, frame.number, self.core.running).ok_or(refused(
-            Reason::NoSuchFrame,
-            0,
-        ))?;
+        let running = mine(self.core.number, frame.number, self.core.running);
+        let running = running.ok_or(refused(Reason::NoSuchFrame, 0))?;
         self.octet_given(running, octet)
     }
 
