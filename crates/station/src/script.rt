@@ -8,11 +8,10 @@ ghost use Rattle.station.specs.Scripts.{calls_of, told};
 
 use crate::calls::Station;
 use crate::token::{EndRefusal, Frame};
-use core_steps::questions::refused;
 use frame::progress::Verdict;
 use memory::Memory;
 use rules::data::{Answer, Call};
-use rules::fault::{Fault, Reason};
+use rules::fault::Fault;
 
 // A call with its answer, once it is done.
 #[derive(Clone, Copy)]
@@ -77,7 +76,7 @@ impl<M: Memory> Station<M> {
     }
 }
 
-// Apart from `replay`, which so has no proof file: an edit of it is refused at its code.
+// The promise is proved in a file, so it stands apart from `replay`, of which an edit is refused at its code.
 fn replayed<M: Memory>(memory: M, number: u16, script: &mut [Entry]) -> M
     ensures answers { told script.new ≡ history (new_station (M.octets memory) number) (calls_of script.old) }
     ensures after { M.octets result ≡ (runs (new_station (M.octets memory) number) (calls_of script.old)).octets }
