@@ -41,6 +41,10 @@ abbrev pub octet_as : Result OctetAnswer Fault → Answer
 octet_as (Ok a) = Forwards a.forwarded a.read a.write
 octet_as (Err f) = Refuse f
 
+abbrev pub kept_as : Result (Option Fault) Fault → Answer
+kept_as (Ok e) = Kept e
+kept_as (Err f) = Drops f
+
 abbrev pub ended_as : Result (Option Fault) EndRefusal → Answer
 ended_as (Ok e) = Kept e
 ended_as (Err (NotThisFrame f)) = no_such_frame
@@ -83,12 +87,6 @@ abbrev pub Same : Frame → Result (Option Fault) EndRefusal → Type 0
 Same f (Ok e) = Unit {0}
 Same f (Err (NotThisFrame g)) = g ≡ f
 Same f (Err (Dropped e)) = Unit {0}
-
--- an end that was not handed back
-abbrev pub Spent : Result (Option Fault) EndRefusal → Type 0
-Spent (Ok e) = Unit {0}
-Spent (Err (NotThisFrame g)) = ⊥
-Spent (Err (Dropped e)) = Unit {0}
 
 -- the refusal of an end
 abbrev pub end_fault : EndRefusal → Fault

@@ -61,6 +61,7 @@ impl<M: Memory> Station<M> {
     fn read_one(&mut self, access: Access, so_far: Gathered) -> Gathered
         ensures { reads_so self.new.station result ≡ read_one access (reads_so self.old.station so_far) (reads self.old.station access).after (reads self.old.station access).says }
     {
+        // A `match`: two closures that build the struct would be no plainer.
         match self.fetch(access) {
             Ok(octet) => {
                 let gathered = access.share.laid(so_far.gathered, octet);
@@ -92,6 +93,7 @@ impl<M: Memory> Station<M> {
     fn read_mapped(&mut self, list: &[mapping::mapped::Access], mut so_far: Gathered) -> Gathered
         ensures { reads_so self.new.station result ≡ read_all (reads_so self.old.station so_far) (map (through_mapping Reading) list.now) }
     {
+        // A loop: the closure of a fold would change the station, of which a proof knows nothing after it.
         for access in list {
             so_far = self.read_one(through_mapping(Direction::Read, *access), so_far);
         }

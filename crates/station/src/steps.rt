@@ -6,7 +6,7 @@ ghost use Rattle.access.specs.declared.Direction.TheVariants.{Write as Writing};
 ghost use Rattle.rules.specs.declared.data.Call.TheVariants.{Begin as BeginCall, Octet as OctetCall, End as EndCall, Read as ReadCall, Write as WriteCall};
 ghost use Rattle.rules.specs.declared.data.Answer.TheVariants.{Kept as Keeps};
 ghost use Rattle.rules.specs.Steps.{over, with_running, with_channels, dropped_channel, octet_answer, octet_given, kept_channels, kept_station, end_of, step};
-ghost use Rattle.station.specs.Replies.{begun_as, octet_as, ended_as, read_as, written_as, Minted, Begun, Same, Spent};
+ghost use Rattle.station.specs.Replies.{begun_as, octet_as, ended_as, kept_as, read_as, written_as, Minted, Begun, Same};
 
 use crate::calls::Station;
 use crate::octets::plain;
@@ -131,15 +131,14 @@ impl<M: Memory> Station<M> {
         denied
     }
 
-    fn end_of(&mut self, running: Running, verdict: Verdict) -> Result<Option<Fault>, EndRefusal>
-        ensures step { (self.new.station, ended_as result) ≡ end_of self.old.station running (kept running.progress verdict) }
-        ensures spent { Spent result }
+    fn end_of(&mut self, running: Running, verdict: Verdict) -> Result<Option<Fault>, Fault>
+        ensures { (self.new.station, kept_as result) ≡ end_of self.old.station running (kept running.progress verdict) }
     {
         match running.progress.end(verdict) {
             Ok(()) => Ok(self.keep(running.waiting)),
             Err(reason) => {
                 self.cancel();
-                Err(EndRefusal::Dropped(refused(Reason::Frame(reason), 0)))
+                Err(refused(Reason::Frame(reason), 0))
             }
         }
     }
@@ -157,6 +156,6 @@ impl<M: Memory> Station<M> {
             return Err(EndRefusal::NotThisFrame(frame));
         };
         let Frame { number: _ } = frame;
-        self.end_of(running, verdict)
+        self.end_of(running, verdict).map_err(EndRefusal::Dropped)
     }
 }
