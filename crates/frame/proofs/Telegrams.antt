@@ -1,10 +1,11 @@
 -- The laws of one datagram.
-use Rattle.std.proofs.Common.{◌≡◌, ℕ, suc, ◌+◌, ◌*◌, ◌/◌, ◌%◌, ◌<◌, ◌≤◌, Bool, true, false, cond, not, ltb, List, [], ◌∷◌, ◌++◌, map, length, sym, refl, ap, ◌∙◌, arith, lit<, le-ltb, lt-ltb}
+use Rattle.std.proofs.Common.{◌≡◌, ℕ, suc, ◌+◌, ◌*◌, ◌/◌, ◌%◌, ◌<◌, ◌≤◌, Bool, cond, not, ltb, List, [], ◌∷◌, ◌++◌, map, length, sym, refl, ap, ◌∙◌, arith}
 use Rattle.std.proofs.lemmas.List.{length-map, length-append, map-append, append_assoc}
+use Rattle.std.proofs.lemmas.List.Sums.{fold-append}
+use Rattle.std.proofs.lemmas.Simd.{map-map}
+use Rattle.std.proofs.lemmas.Bool.Decides.{nat_tests}
 use Rattle.frame.specs.declared.command.Action.{Action}
-use Rattle.frame.specs.declared.command.Action.TheVariants.{Read, Write, ReadWrite, ReadOrWrite, Nothing as NoAction}
 use Rattle.frame.specs.declared.outcome.Outcome.{Outcome}
-use Rattle.frame.specs.declared.outcome.Outcome.TheVariants.{NotWanted, Done, Refused}
 use Rattle.frame.specs.declared.outcome.Tally.{Tally}
 use Rattle.frame.specs.declared.outcome.Tally.TheVariants.{Nothing, Success, Failure}
 use Rattle.frame.specs.declared.datagram.Datagram.{Datagram}
@@ -16,7 +17,7 @@ use Rattle.frame.specs.Cursors.{to, data_from, followed_by, carried, shown, want
 use Rattle.std.specs.List.{list_any}
 use Rattle.frame.specs.Wire.{Item, octets, next, out, after, leaving, Telegram, Formed, head, foot, wire, reaches, refused, succeeds, gained, passed}
 use Rattle.frame.specs.Laws.{DatagramLeaves, DatagramIsFollowed, DataOctetAsks}
-use Rattle.frame.proofs.Steps.{folded-append, emitted-append, pair-back, length_back, more-back, next_low, next-high, sum_low, sum-high}
+use Rattle.frame.proofs.Steps.{emitted-append, pair-back, length_back, more-back, next_low, next-high, sum_low, sum-high}
 
 -- TALLIES of a list of outcomes, and what they are worth
 abbrev pub met_all : {X F : Type 0} → Tally → List (Outcome X F) → Tally
@@ -25,32 +26,18 @@ met_all t (x ∷ xs) = met_all (met t x) xs
 
 failed : {X F : Type 0} (xs : List (Outcome X F)) → met_all Failure xs ≡ Failure
 failed [] = refl
-failed (NotWanted ∷ xs) = failed xs
-failed (Done v ∷ xs) = failed xs
-failed (Refused f ∷ xs) = failed xs
+failed (x ∷ xs) = grind (arith, failed xs)
 
 going : {X F : Type 0} (xs : List (Outcome X F)) (n : ℕ) → worth (met_all Success xs) n ≡ cond (not (list_any refused xs)) n 0
 going [] n = refl
-going (NotWanted ∷ xs) n = going xs n
-going (Done v ∷ xs) n = going xs n
-going (Refused f ∷ xs) n = ap (λ t. worth t n) (failed xs)
+going (x ∷ xs) n = grind (arith, going xs n, failed xs)
 
 earned : {X F : Type 0} (xs : List (Outcome X F)) (n : ℕ) → worth (met_all Nothing xs) n ≡ cond (succeeds xs) n 0
 earned [] n = refl
-earned (NotWanted ∷ xs) n = earned xs n
-earned (Done v ∷ xs) n = going xs n
-earned (Refused f ∷ xs) n = ap (λ t. worth t n) (failed xs)
+earned (x ∷ xs) n = grind (arith, earned xs n, going xs n, failed xs)
 
 worth-small : (k : Action) → write_worth k < 3
-worth-small Read = lit< tt
-worth-small Write = lit< tt
-worth-small ReadWrite = lit< tt
-worth-small ReadOrWrite = lit< tt
-worth-small NoAction = lit< tt
-
-at_most : (b : Bool) (n m : ℕ) → n < m → cond b n 0 < m
-at_most true n m h = h
-at_most false n m h = omega arith
+worth-small k = grind arith
 
 -- THE DATAGRAM as its header leaves it, and after some of its data
 abbrev pub headed : {F : Type 0} → Bool → Telegram F → List (Item F) → Datagram
@@ -68,10 +55,10 @@ headed more t xs =
 
 -- where data octet j of n stands
 in-data : (j n : ℕ) → j < n → data_from j n ≡ at.Data j
-in-data j n h = ap (λ b. cond b (at.Data j) at.CounterLow) (lt-ltb j n h)
+in-data j n h = grind (arith, nat_tests)
 
 past-data : (j n : ℕ) → n ≤ j → data_from j n ≡ at.CounterLow
-past-data j n h = ap (λ b. cond b (at.Data j) at.CounterLow) (le-ltb j n h)
+past-data j n h = grind (arith, nat_tests)
 
 module _ {F : Type 0} where
   abbrev tallied_all : Datagram → List (Item F) → Datagram
@@ -121,7 +108,7 @@ module _ {F : Type 0} where
   pub after-some : (d : Datagram) (more : Bool) (t : Telegram F) (xs : List (Item F)) → Formed t → length xs ≤ length t.items →
       after (to at.Command d) (head more t ++ xs) ≡ to (data_from (0 + length xs) (length t.items)) (headed more t xs)
   after-some d more t xs f h =
-      folded-append next (to at.Command d) (head more t) xs ∙ ap (λ c. after c xs) (after-head d more t f) ∙ after-data (headed more t []) 0 xs (omega arith) ∙ ap (to (data_from (0 + length xs) (length t.items))) (tallied-is (headed more t []) xs)
+      fold-append next (to at.Command d) (head more t) xs ∙ ap (λ c. after c xs) (after-head d more t f) ∙ after-data (headed more t []) 0 xs (omega arith) ∙ ap (to (data_from (0 + length xs) (length t.items))) (tallied-is (headed more t []) xs)
 
   pub after_items : (d : Datagram) (more : Bool) (t : Telegram F) → Formed t → after (to at.Command d) (head more t ++ t.items) ≡ to at.CounterLow (headed more t t.items)
   after_items d more t f =
@@ -129,7 +116,7 @@ module _ {F : Type 0} where
 
   pub after-wire : (d : Datagram) (more : Bool) (t : Telegram F) → Formed t → after (to at.Command d) (wire more t) ≡ to (followed_by more) (headed more t t.items)
   after-wire d more t f =
-      ap (after (to at.Command d)) (sym (append_assoc (head more t) t.items (foot t))) ∙ folded-append next (to at.Command d) (head more t ++ t.items) (foot t) ∙ ap (λ c. after c (foot t)) (after_items d more t f)
+      ap (after (to at.Command d)) (sym (append_assoc (head more t) t.items (foot t))) ∙ fold-append next (to at.Command d) (head more t ++ t.items) (foot t) ∙ ap (λ c. after c (foot t)) (after_items d more t f)
 
   -- WHAT LEAVES: header, data, counter
   head-leaves : (d : Datagram) (more : Bool) (t : Telegram F) → Formed t → leaving (to at.Command d) (head more t) ≡ octets (head more (passed t))
@@ -138,23 +125,16 @@ module _ {F : Type 0} where
       let long = sym (length-map t.items (λ x. (shown (command_of t.command) x.0 x.1.accessed.laid, x.1))) in
       λ i. t.command ∷ t.index ∷ next_low counts t.adp i ∷ next-high counts t.adp f.adp-fits i ∷ (t.ado % 256) ∷ (t.ado / 256) ∷ (long i % 256) ∷ (long i / 256 + 8 * t.spare + cond more 128 0) ∷ (t.irq % 256) ∷ (t.irq / 256) ∷ []
 
-  shown-octets : (g : Item F → ℕ) (xs : List (Item F)) → map g xs ≡ octets (map (λ x. (g x, x.1)) xs)
-  shown-octets g [] = refl
-  shown-octets g (x ∷ xs) = ap (λ l. g x ∷ l) (shown-octets g xs)
-
   items-leave : (more : Bool) (t : Telegram F) → leaving (to (data_from 0 (length t.items)) (headed more t [])) t.items ≡ octets (passed t).items
   items-leave more t =
-      data-leaves (headed more t []) 0 t.items (omega arith) ∙ shown-octets (λ x. shown (command_of t.command) x.0 x.1.accessed.laid) t.items
+      data-leaves (headed more t []) 0 t.items (omega arith) ∙ sym (map-map (λ x. x.0) (λ x. (shown (command_of t.command) x.0 x.1.accessed.laid, x.1)) t.items)
 
   added_is : (more : Bool) (t : Telegram F) → added (headed more t t.items) ≡ gained t
   added_is more t =
       λ i. earned (map (λ x. x.1.accessed.read) t.items) 1 i + earned (map (λ x. x.1.accessed.write) t.items) (write_worth (action_of (command_of t.command))) i
 
   gained-small : (t : Telegram F) → gained t < 4
-  gained-small t =
-      let r = at_most (succeeds (map (λ x. x.1.accessed.read) t.items)) 1 2 (lit< tt) in
-      let w = at_most (succeeds (map (λ x. x.1.accessed.write) t.items)) (write_worth (action_of (command_of t.command))) 3 (worth-small (action_of (command_of t.command))) in
-      omega arith
+  gained-small t = let w : write_worth (action_of (command_of t.command)) < 3 = worth-small _ in grind (arith, nat_tests)
 
   foot-leaves : (more : Bool) (t : Telegram F) → Formed t → leaving (to at.CounterLow (headed more t t.items)) (foot t) ≡ octets (foot (passed t))
   foot-leaves more t f =
@@ -165,7 +145,7 @@ module _ {F : Type 0} where
   wire-leaves d more t f =
       let c = to at.Command d in
       let s = to (data_from 0 (length t.items)) (headed more t []) in
-      let all : after s t.items ≡ to at.CounterLow (headed more t t.items) = ap (λ c. after c t.items) (sym (after-head d more t f)) ∙ sym (folded-append next c (head more t) t.items) ∙ after_items d more t f in
+      let all : after s t.items ≡ to at.CounterLow (headed more t t.items) = ap (λ c. after c t.items) (sym (after-head d more t f)) ∙ sym (fold-append next c (head more t) t.items) ∙ after_items d more t f in
       emitted-append next out c (head more t) (t.items ++ foot t)
       ∙ ap (λ c. leaving (to at.Command d) (head more t) ++ leaving c (t.items ++ foot t)) (after-head d more t f)
       ∙ ap (λ l. leaving c (head more t) ++ l) (emitted-append next out s t.items (foot t) ∙ ap (λ c. leaving s t.items ++ leaving c (foot t)) all)

@@ -2,6 +2,7 @@
 ghost use Rattle.std.specs.Prelude.{◌≡◌};
 ghost use Rattle.frame.specs.Commands.{command_of, addressing_of, action_of, is_addressed, forwards_next, shall_read, shall_write, write_worth, ors};
 
+// `Other` is every other octet, and no refusal: its datagram is forwarded as it came.
 #[derive(Clone, Copy)]
 pub enum Command {
     Aprd,
@@ -22,7 +23,7 @@ pub enum Command {
 }
 
 // Whom a command addresses: the station that it reaches with ADP 0, the one whose address or alias is ADP, every station, whoever maps the
-// logical address, or nobody.
+// logical address, or nobody. `Nobody` is a row of the table like the others, so that each rule is total.
 #[derive(Clone, Copy)]
 pub enum Addressing {
     ByPosition,
@@ -32,7 +33,7 @@ pub enum Addressing {
     Nobody,
 }
 
-// What a command asks for. `ReadOrWrite`: of the addressed station a read, of the others a write.
+// What a command asks for. `ReadOrWrite`: of the addressed station a read, of the others a write. `Nothing` is a row too: `Other` has an action.
 #[derive(Clone, Copy)]
 pub enum Action {
     Read,
@@ -49,10 +50,11 @@ pub struct Addresses {
     pub alias: u16,
 }
 
-impl Command {
-    pub(crate) fn of(octet: u8) -> Command
-        ensures { result ≡ command_of octet }
-    {
+// Total, and so no `TryFrom`.
+impl From<u8> for Command {
+    ghost from_gives = { λ octet r. r ≡ command_of octet };
+
+    fn from(octet: u8) -> Command {
         match octet {
             1 => Command::Aprd,
             2 => Command::Apwr,
@@ -71,7 +73,9 @@ impl Command {
             _ => Command::Other,
         }
     }
+}
 
+impl Command {
     pub(crate) fn addressing(self) -> Addressing
         ensures { result ≡ addressing_of self }
     {
@@ -100,21 +104,17 @@ impl Command {
     pub(crate) fn forwards_next(self) -> bool
         ensures { result ≡ forwards_next (addressing_of self) }
     {
-        match self {
-            Command::Aprd | Command::Apwr | Command::Aprw | Command::Armw => true,
-            Command::Brd | Command::Bwr | Command::Brw => true,
-            _ => false,
-        }
+        matches!(
+            self.addressing(),
+            Addressing::ByPosition | Addressing::Broadcast
+        )
     }
 
     // Whether a fetched octet is ORed into the one that came.
     pub(crate) fn ors(self) -> bool
         ensures { result ≡ ors self }
     {
-        match self {
-            Command::Brd | Command::Brw => true,
-            _ => false,
-        }
+        matches!(self, Command::Brd | Command::Brw)
     }
 }
 

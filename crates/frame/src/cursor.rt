@@ -61,6 +61,7 @@ impl Cursor {
         ensures next { self.new ≡ advanced self.old octet addresses accessed.now.read accessed.now.write }
         ensures leaves { result ≡ leaves_of self.old octet accessed.now.laid }
     {
+        // One `match` on position and octet together, in place: a form asked for (docs/DECISIONS.md).
         match (self.position, octet) {
             (Position::HeaderLow, _) => self.pass(octet, Position::HeaderHigh),
             (Position::HeaderHigh, 0x10..=0x1f) => self.pass(octet, Position::Command),
@@ -94,7 +95,7 @@ impl Cursor {
         ensures next { self.new ≡ to Position.Index (fresh (command_of octet)) }
         ensures leaves { result ≡ octet }
     {
-        self.datagram = Datagram::of(Command::of(octet));
+        self.datagram = Datagram::of(Command::from(octet));
         self.position = Position::Index;
         octet
     }
@@ -112,7 +113,7 @@ impl Cursor {
         ensures next { self.new ≡ to Position.AdoLow (judged self.old.datagram (pair low high) addresses) }
         ensures leaves { result ≡ carried (forwards_next (addressing_of self.old.datagram.command) && low == 255) high }
     {
-        let adp = low as u16 + 256 * high as u16;
+        let adp = u16::from_le_bytes([low, high]);
         let addressing = self.datagram.command.addressing();
         self.datagram.adp = adp;
         self.datagram.addressed = addressing.holds(adp, addresses);
@@ -124,7 +125,7 @@ impl Cursor {
         ensures next { self.new ≡ to Position.LenLow (offset self.old.datagram (pair low high)) }
         ensures leaves { result ≡ high }
     {
-        self.datagram.ado = low as u16 + 256 * high as u16;
+        self.datagram.ado = u16::from_le_bytes([low, high]);
         self.position = Position::LenLow;
         high
     }
@@ -133,7 +134,7 @@ impl Cursor {
         ensures next { self.new ≡ to Position.IrqLow (measured self.old.datagram low high) }
         ensures leaves { result ≡ high }
     {
-        self.datagram.length = low as u16 + 256 * (high % 8) as u16;
+        self.datagram.length = u16::from_le_bytes([low, high % 8]);
         self.datagram.more = high >= 128;
         self.position = Position::IrqLow;
         high
@@ -144,7 +145,7 @@ impl Cursor {
         ensures leaves { result ≡ shown self.old.datagram.command octet accessed.now.laid }
     {
         self.datagram.tally(accessed);
-        self.position = data_from(index as u32 + 1, self.datagram.length);
+        self.position = data_from(u32::from(index) + 1, self.datagram.length);
         if self.datagram.command.ors() {
             octet | accessed.laid
         } else {
@@ -156,11 +157,9 @@ impl Cursor {
         ensures next { self.new ≡ to (Position.CounterHigh (nat_lt 255 (low + added self.old.datagram))) self.old.datagram }
         ensures leaves { result ≡ (low + added self.old.datagram) % 256 }
     {
-        let adds = self.datagram.adds();
-        self.position = Position::CounterHigh {
-            carry: low > 255 - adds,
-        };
-        low.wrapping_add(adds)
+        let (leaves, carry) = low.overflowing_add(self.datagram.adds());
+        self.position = Position::CounterHigh { carry };
+        leaves
     }
 
     fn counter_high(&mut self, carry: bool, high: u8) -> u8
@@ -180,7 +179,7 @@ impl Cursor {
 fn data_from(index: u32, length: u16) -> Position
     ensures { result ≡ data_from index length }
 {
-    if index < length as u32 {
+    if index < u32::from(length) {
         Position::Data {
             index: index as u16,
         }
@@ -192,5 +191,5 @@ fn data_from(index: u32, length: u16) -> Position
 fn with_carry(octet: u8, carry: bool) -> u8
     ensures { result ≡ carried carry octet }
 {
-    if carry { octet.wrapping_add(1) } else { octet }
+    octet.wrapping_add(u8::from(carry))
 }

@@ -56,9 +56,9 @@ impl Datagram {
     {
         match self.command.addressing() {
             Addressing::ByMapping => {
-                Place::Logical(self.adp as u64 + 65536 * self.ado as u64 + index as u64)
+                Place::Logical(u64::from(self.adp) + 65536 * u64::from(self.ado) + u64::from(index))
             }
-            _ => Place::Physical(self.ado as u32 + index as u32),
+            _ => Place::Physical(u32::from(self.ado) + u32::from(index)),
         }
     }
 

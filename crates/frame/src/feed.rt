@@ -1,13 +1,13 @@
 // Whole slices, to measure: over a memory that does every access and holds one octet everywhere.
 ghost use Rattle.std.specs.Prelude.{◌≡◌, fold};
-ghost use Rattle.frame.specs.Frames.{begun_frame, or_unchanged};
+ghost use Rattle.frame.specs.Frames.{begun_frame};
 ghost use Rattle.frame.specs.Runs.{emitted};
 ghost use Rattle.frame.specs.Feeding.{done_if, served, fed_next, fed_octet};
 
 use crate::command::Addresses;
 use crate::datagram::Wanted;
 use crate::outcome::{Accessed, Outcome};
-use crate::progress::{Progress, Reason};
+use crate::progress::Progress;
 
 fn done_if<T: Drop>(wanted: bool, value: T) -> Outcome<T, ()>
     ensures { result ≡ done_if wanted value }
@@ -22,18 +22,10 @@ fn done_if<T: Drop>(wanted: bool, value: T) -> Outcome<T, ()>
 fn serve(wanted: Option<Wanted>, octet: u8, holds: u8) -> Accessed<()>
     ensures { result ≡ served holds octet wanted }
 {
+    // A `match`: `map_or` would spell out both answers too.
     match wanted {
         Some(w) => Accessed::whole(octet, done_if(w.read, holds), done_if(w.write, ())),
         None => Accessed::whole(octet, Outcome::NotWanted, Outcome::NotWanted),
-    }
-}
-
-fn or_same(answer: Result<u8, Reason>, octet: u8) -> u8
-    ensures { result ≡ or_unchanged octet answer }
-{
-    match answer {
-        Ok(leaves) => leaves,
-        Err(_) => octet,
     }
 }
 
@@ -42,7 +34,7 @@ fn feed_octet(progress: &mut Progress, octet: u8, addresses: Addresses, holds: u
     ensures leaves { result ≡ fed_octet holds progress.old octet }
 {
     let accessed = serve(progress.wanted(), octet, holds);
-    or_same(progress.octet(octet, addresses, &accessed), octet)
+    progress.octet(octet, addresses, &accessed).unwrap_or(octet)
 }
 
 // Feeds the octets one by one, and leaves in their place what is forwarded.

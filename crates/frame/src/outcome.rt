@@ -2,7 +2,7 @@
 ghost use Rattle.std.specs.Prelude.{◌≡◌};
 ghost use Rattle.frame.specs.Outcomes.{met, worth, replaced};
 
-// `F` is the caller's fault, whole.
+// An enum of its own: the form asked for of an octet's answer (docs/DECISIONS.md). `F` is the caller's fault, whole.
 #[derive(Clone, Copy, PartialEq, Eq, Debug)]
 pub enum Outcome<T, F> {
     NotWanted,
@@ -10,7 +10,7 @@ pub enum Outcome<T, F> {
     Refused(F),
 }
 
-// What a datagram's accesses in one direction came to so far.
+// What a datagram's accesses in one direction came to so far. Three names: an `Option<bool>` would not say what false means.
 #[derive(Clone, Copy)]
 pub enum Tally {
     Nothing,
@@ -54,17 +54,10 @@ impl<F> Accessed<F> {
     pub fn whole(octet: u8, read: Outcome<u8, F>, write: Outcome<(), F>) -> Accessed<F>
         ensures { result ≡ replaced octet read write }
     {
-        match read {
-            Outcome::Done(fetched) => Accessed {
-                read: Outcome::Done(fetched),
-                write,
-                laid: fetched,
-            },
-            other => Accessed {
-                read: other,
-                write,
-                laid: octet,
-            },
-        }
+        let laid = match &read {
+            Outcome::Done(fetched) => *fetched,
+            _ => octet,
+        };
+        Accessed { read, write, laid }
     }
 }

@@ -17,31 +17,27 @@ pub struct Progress {
     pub cursor: Cursor,
 }
 
-// The frame check's verdict, which the driver brings.
+// The frame check's verdict, which the driver brings. Two names: a `bool` at a call would not say which is good.
 #[derive(Clone, Copy, PartialEq, Eq, Debug)]
 pub enum Verdict {
     Good,
     Bad,
 }
 
-// Why an octet is refused, or a frame dropped at its end: more than 1,500 octets, an end before the last datagram is complete, a bad frame
-// check.
+// Why an octet is refused, or a frame dropped at its end, with its number: more than 1,500 octets, an end before the last datagram is complete, a
+// bad frame check.
 #[derive(Clone, Copy, PartialEq, Eq, Debug)]
 pub enum Reason {
-    TooLong,
-    Unfinished,
-    BadCheck,
+    TooLong = 16,
+    Unfinished = 17,
+    BadCheck = 18,
 }
 
 impl Reason {
     pub fn number(self) -> u8
         ensures { result ≡ reason_number self }
     {
-        match self {
-            Reason::TooLong => 16,
-            Reason::Unfinished => 17,
-            Reason::BadCheck => 18,
-        }
+        self as u8
     }
 }
 
@@ -113,9 +109,6 @@ impl Progress {
     fn is_complete(&self) -> bool
         ensures { result ≡ ended_by self.now.cursor.position }
     {
-        match self.cursor.position {
-            Position::Padding | Position::Passing => true,
-            _ => false,
-        }
+        matches!(self.cursor.position, Position::Padding | Position::Passing)
     }
 }
