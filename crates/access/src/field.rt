@@ -1,41 +1,57 @@
-// Register fields of two and of four octets, read and written octet by octet, the low octet first.
-ghost use Rattle.std.specs.Prelude.{◌≡◌};
+// Register fields of several octets, read and written octet by octet, the low octet first.
+ghost use Rattle.std.specs.Prelude.{◌≡◌, ℕ, slice_index};
 ghost use Rattle.access.specs.Fields.{octet_at, with_octet, FieldsReadBack};
 
-// An octet of a field; 0 past its last octet.
-pub fn octet16(field: u16, index: u8) -> u8
-    ensures { result ≡ octet_at 2 field index }
-{
-    let octets = field.to_le_bytes();
-    if index < 2 { octets[index as usize] } else { 0 }
+use crate::list::replaced;
+
+// A number that a register holds in some octets.
+pub trait Field {
+    // How many octets it has, and its value.
+    ghost width: { ℕ };
+
+    ghost value: { Self → ℕ };
+
+    // An octet of the field; 0 past its last octet.
+    fn octet(self, index: u8) -> u8
+        ensures { result ≡ octet_at width (value self) index };
+
+    // The field with one octet replaced; unchanged past its last octet.
+    fn with_octet(self, index: u8, octet: u8) -> Self
+        ensures { value result ≡ with_octet width (value self) index octet };
 }
 
-pub fn octet32(field: u32, index: u8) -> u8
-    ensures { result ≡ octet_at 4 field index }
-{
-    let octets = field.to_le_bytes();
-    if index < 4 { octets[index as usize] } else { 0 }
-}
+impl Field for u16 {
+    ghost width = { 2 };
 
-// A field with one octet replaced; unchanged past its last octet.
-pub fn with_octet16(field: u16, index: u8, octet: u8) -> u16
-    ensures { result ≡ with_octet 2 field index octet }
-{
-    let mut octets = field.to_le_bytes();
-    if index < 2 {
-        octets[index as usize] = octet;
+    ghost value = { λ n. n };
+
+    fn octet(self, index: u8) -> u8 {
+        octet_of::<2>(self.to_le_bytes(), index)
     }
-    u16::from_le_bytes(octets)
+
+    fn with_octet(self, index: u8, octet: u8) -> u16 {
+        u16::from_le_bytes(replaced(self.to_le_bytes(), index, octet))
+    }
 }
 
-pub fn with_octet32(field: u32, index: u8, octet: u8) -> u32
-    ensures { result ≡ with_octet 4 field index octet }
-{
-    let mut octets = field.to_le_bytes();
-    if index < 4 {
-        octets[index as usize] = octet;
+impl Field for u32 {
+    ghost width = { 4 };
+
+    ghost value = { λ n. n };
+
+    fn octet(self, index: u8) -> u8 {
+        octet_of::<4>(self.to_le_bytes(), index)
     }
-    u32::from_le_bytes(octets)
+
+    fn with_octet(self, index: u8, octet: u8) -> u32 {
+        u32::from_le_bytes(replaced(self.to_le_bytes(), index, octet))
+    }
+}
+
+fn octet_of<const N: usize>(octets: [u8; N], index: u8) -> u8
+    ensures { result ≡ slice_index octets.entry index }
+{
+    octets.get(index as usize).copied().unwrap_or(0)
 }
 
 // What is written to an octet of a field is read back from it, and every other octet stays: for fields of any width.

@@ -2,6 +2,7 @@
 #![tactic(auto)]
 
 pub mod field;
+pub mod list;
 
 // Who makes an access: the master, by a frame, or the local side, the device that the station stands in.
 #[derive(Clone, Copy, PartialEq, Eq, Debug)]

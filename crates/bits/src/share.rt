@@ -4,8 +4,9 @@ ghost use Rattle.bits.specs.declared.share.Share.TheVariants.{Part};
 ghost use Rattle.bits.specs.Shares.{share_of, laid, stored, AllBitsComeBack};
 
 // All eight bits in their places; or the logical bits of a mask, of which bit i is bit (i + turn) % 8 of the physical octet.
-#[derive(Clone, Copy, PartialEq, Eq, Debug)]
+#[derive(Clone, Copy, PartialEq, Eq, Debug, Default)]
 pub enum Share {
+    #[default]
     Whole,
     Part { bits: u8, turn: u8 },
 }
@@ -43,20 +44,23 @@ impl Share {
     }
 }
 
+#[tactic(auto, using(crate::proofs::Turns::laid_is))]
 fn part_laid(bits: u8, turn: u8, octet: u8, fetched: u8) -> u8
     ensures { result ≡ laid (Part bits turn) octet fetched }
 {
-    (octet & !bits) | (fetched.rotate_right(turn as u32) & bits)
+    (octet & !bits) | (fetched.rotate_right(u32::from(turn)) & bits)
 }
 
+#[tactic(auto, using(crate::proofs::Turns::stored_is))]
 fn part_stored(bits: u8, turn: u8, old: u8, octet: u8) -> u8
     ensures { result ≡ stored (Part bits turn) old octet }
 {
-    let places = bits.rotate_left(turn as u32);
-    (old & !places) | (octet.rotate_left(turn as u32) & places)
+    let places = bits.rotate_left(u32::from(turn));
+    (old & !places) | (octet.rotate_left(u32::from(turn)) & places)
 }
 
 // Bits stored and fetched again come back, and no other bit moves.
+#[tactic(auto, using(crate::proofs::Turns::bits_come_back))]
 pub fn bits_come_back()
     ensures { AllBitsComeBack }
 {}

@@ -1,5 +1,6 @@
 -- Channels and their areas in service, and the judging of an enabling. Assumes nothing.
-use Rattle.std.specs.Prelude.{ℕ, ◌+◌, ◌-◌, Bool, false, cond, not, ◌&&◌, ◌||◌, List, [], ◌∷◌, Some, None, Ok, Err, Option, Result, nat_le, nat_lt}
+use Rattle.std.specs.Prelude.{ℕ, ◌+◌, ◌-◌, Bool, false, cond, not, ◌&&◌, List, Some, None, Ok, Err, Option, Result, nat_le, nat_lt}
+use Rattle.std.specs.List.{list_any}
 use Rattle.channel.specs.declared.setting.Setting.{Setting}
 use Rattle.channel.specs.declared.setting.Window.{Window}
 use Rattle.channel.specs.declared.setting.Denial.{Denial}
@@ -44,8 +45,7 @@ touches_in w None = false
 touches_in w (Some s) = touches w s.window
 
 abbrev pub touches_any : Window → List Channel → Bool
-touches_any w [] = false
-touches_any w (c ∷ cs) = touches_in w c.service || touches_any w cs
+touches_any w cs = list_any (λ c. touches_in w c.service) cs
 
 -- The questions before an enabling, of a memory of so many octets and the channels beside: the first no decides.
 abbrev pub judged_window : (size : ℕ) → List Channel → Window → Result Window Denial

@@ -1,14 +1,14 @@
 // The questions before an access to a channel's area, in their order: the first no decides.
 ghost use Rattle.std.specs.Prelude.{◌≡◌};
 ghost use Rattle.channel.specs.Windows.{offset_in};
-ghost use Rattle.channel.specs.Facts.{is_master, same_side, right_way, taken_of, opens, turn, asked, refusal_number};
+ghost use Rattle.channel.specs.Facts.{right_way, taken_of, opens, turn, asked, refusal_number};
 
 use crate::setting::{Kind, Window};
 use access::{Direction, Side};
 
-// What the questions need to know of a channel in service: the octets that the open writing and the open reading have taken (0: none is open),
-// has the running frame closed a transaction here, and is there a message to read: in a mailbox, it is full; in a buffered channel, a writing
-// has been completed.
+// What the questions need to know of a channel in service: the octets that the open writing and the open reading have taken (an open one has taken
+// at least 1, so 0 is the number itself where none is open), has the running frame closed a transaction here, and is there a message to read: in a
+// mailbox, it is full; in a buffered channel, a writing has been completed.
 #[derive(Clone, Copy)]
 pub struct Facts {
     pub window: Window,
@@ -18,59 +18,35 @@ pub struct Facts {
     pub message: bool,
 }
 
-// Why an access is refused.
+// Why an access is refused, with its number.
 #[derive(Clone, Copy, PartialEq, Eq, Debug)]
 pub enum Refusal {
-    OutsideWindow,
-    WrongSide,
-    AlreadyClosed,
-    OutOfTurn,
-    MailboxFull,
-    MailboxEmpty,
-    NothingWritten,
+    OutsideWindow = 5,
+    WrongSide = 6,
+    AlreadyClosed = 7,
+    OutOfTurn = 8,
+    MailboxFull = 9,
+    MailboxEmpty = 10,
+    NothingWritten = 11,
 }
 
 impl Refusal {
     pub fn number(self) -> u8
         ensures { result ≡ refusal_number self }
     {
-        match self {
-            Refusal::OutsideWindow => 5,
-            Refusal::WrongSide => 6,
-            Refusal::AlreadyClosed => 7,
-            Refusal::OutOfTurn => 8,
-            Refusal::MailboxFull => 9,
-            Refusal::MailboxEmpty => 10,
-            Refusal::NothingWritten => 11,
+        self as u8
+    }
+}
+
+impl Window {
+    // One side writes, the other reads.
+    fn right_way(self, side: Side, direction: Direction) -> bool
+        ensures { result ≡ right_way self side direction }
+    {
+        match direction {
+            Direction::Write => side == self.stores,
+            Direction::Read => side != self.stores,
         }
-    }
-}
-
-pub(crate) fn is_master(side: Side) -> bool
-    ensures { result ≡ is_master side }
-{
-    match side {
-        Side::Master => true,
-        Side::Local => false,
-    }
-}
-
-fn same_side(a: Side, b: Side) -> bool
-    ensures { result ≡ same_side a b }
-{
-    match a {
-        Side::Master => is_master(b),
-        Side::Local => !is_master(b),
-    }
-}
-
-// One side writes, the other reads.
-fn right_way(window: Window, side: Side, direction: Direction) -> bool
-    ensures { result ≡ right_way window side direction }
-{
-    match direction {
-        Direction::Write => same_side(side, window.stores),
-        Direction::Read => !same_side(side, window.stores),
     }
 }
 
@@ -82,9 +58,9 @@ impl Facts {
         let offset = self.window.offset(address);
         if offset >= u32::from(self.window.length) {
             Err(Refusal::OutsideWindow)
-        } else if !right_way(self.window, side, direction) {
+        } else if !self.window.right_way(side, direction) {
             Err(Refusal::WrongSide)
-        } else if is_master(side) && self.closed {
+        } else if side == Side::Master && self.closed {
             Err(Refusal::AlreadyClosed)
         } else {
             self.ask_turn(direction, offset as u16)
@@ -117,23 +93,11 @@ impl Facts {
     fn ask_opening(self, direction: Direction, offset: u16) -> Result<u16, Refusal>
         ensures { result ≡ opens self.window.kind direction self.message offset }
     {
-        match (self.window.kind, direction) {
-            (Kind::Mailbox, Direction::Write) => if self.message {
-                Err(Refusal::MailboxFull)
-            } else {
-                Ok(offset)
-            },
-            (Kind::Mailbox, Direction::Read) => if self.message {
-                Ok(offset)
-            } else {
-                Err(Refusal::MailboxEmpty)
-            },
-            (Kind::Buffered, Direction::Write) => Ok(offset),
-            (Kind::Buffered, Direction::Read) => if self.message {
-                Ok(offset)
-            } else {
-                Err(Refusal::NothingWritten)
-            },
+        match (self.window.kind, direction, self.message) {
+            (Kind::Mailbox, Direction::Write, true) => Err(Refusal::MailboxFull),
+            (Kind::Mailbox, Direction::Read, false) => Err(Refusal::MailboxEmpty),
+            (Kind::Buffered, Direction::Read, false) => Err(Refusal::NothingWritten),
+            _ => Ok(offset),
         }
     }
 }

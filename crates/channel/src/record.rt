@@ -6,8 +6,9 @@ use crate::service::Service;
 use crate::setting::{Denial, Setting, Window};
 use cover::Span;
 
-// The service lasts from an accepted enabling to the kept frame end that clears the enable bit, and its transactions end with it.
-#[derive(Clone, Copy)]
+// The service lasts from an accepted enabling to the kept frame end that clears the enable bit, and its transactions end with it. A struct around
+// the `Option`, since a trait of another crate needs a type of this one.
+#[derive(Clone, Copy, Default)]
 pub struct Channel {
     pub service: Option<Service>,
 }
@@ -18,17 +19,12 @@ impl Span for Channel {
     ghost high = { high };
 
     fn first(&self) -> u64 {
-        match self.service {
-            None => 1,
-            Some(service) => u64::from(service.window.start),
-        }
+        self.service
+            .map_or(1, |service| u64::from(service.window.start))
     }
 
     fn last(&self) -> u64 {
-        match self.service {
-            None => 0,
-            Some(service) => service.window.last(),
-        }
+        self.service.map_or(0, |service| service.window.last())
     }
 }
 
@@ -66,12 +62,7 @@ impl Window {
     fn touches_any(self, channels: &[Channel]) -> bool
         ensures { result ≡ touches_any self channels.now }
     {
-        for channel in channels {
-            if channel.touches(self) {
-                return true;
-            }
-        }
-        false
+        channels.iter().any(|channel| channel.touches(self))
     }
 
     fn judged(self, size: usize, channels: &[Channel]) -> Result<Window, Denial>
@@ -94,9 +85,6 @@ impl Setting {
     pub fn judged(self, size: usize, channels: &[Channel]) -> Result<Window, Denial>
         ensures { result ≡ judged size channels.now self }
     {
-        match self.window() {
-            None => Err(Denial::Control),
-            Some(window) => window.judged(size, channels),
-        }
+        self.window().ok_or(Denial::Control)?.judged(size, channels)
     }
 }

@@ -28,7 +28,7 @@ pub struct Roles {
 }
 
 // Where the message stands that the next reading shows: nowhere, before the first completed writing or in an empty mailbox; in the ready buffer,
-// which is then fresh; or in the fetch buffer.
+// which is then fresh; or in the fetch buffer. An `Option` of the last two would nest one enum in another.
 #[derive(Clone, Copy)]
 pub enum Shown {
     Nothing,

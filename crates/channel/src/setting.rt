@@ -4,7 +4,7 @@ ghost use Rattle.channel.specs.Settings.{octet_of, with_octet_at, window_of, kin
 ghost use Rattle.channel.specs.Windows.{area_size, in_memory, offset_in};
 
 use access::Side;
-use access::field::{octet16, with_octet16};
+use access::field::Field;
 
 // A buffered channel always has a latest message to read, once one is written; a mailbox hands each message over once.
 #[derive(Clone, Copy, PartialEq, Eq, Debug)]
@@ -14,7 +14,7 @@ pub enum Kind {
 }
 
 // Octets 0 and 1 are the start, 2 and 3 the length, 4 is control, 5 the status that the service shows, 6 holds enable in bit 0, and 7 is 0.
-#[derive(Clone, Copy, PartialEq, Eq, Debug)]
+#[derive(Clone, Copy, PartialEq, Eq, Debug, Default)]
 pub struct Setting {
     pub start: u16,
     pub length: u16,
@@ -31,26 +31,21 @@ pub struct Window {
     pub stores: Side,
 }
 
-// Why an enabling is refused: a control field that is not listed, a length below 2, an area that the memory does not have, an area that touches one
-// in service.
+// Why an enabling is refused, with its number: a control field that is not listed, a length below 2, an area that the memory does not have, an area
+// that touches one in service.
 #[derive(Clone, Copy, PartialEq, Eq, Debug)]
 pub enum Denial {
-    Control,
-    Length,
-    Memory,
-    Overlap,
+    Control = 19,
+    Length = 20,
+    Memory = 21,
+    Overlap = 22,
 }
 
 impl Denial {
     pub fn number(self) -> u8
         ensures { result ≡ denial_number self }
     {
-        match self {
-            Denial::Control => 19,
-            Denial::Length => 20,
-            Denial::Memory => 21,
-            Denial::Overlap => 22,
-        }
+        self as u8
     }
 }
 
@@ -60,8 +55,8 @@ impl Setting {
         ensures { result ≡ octet_of self status index }
     {
         match index {
-            0..=1 => octet16(self.start, index),
-            2..=3 => octet16(self.length, index - 2),
+            0..=1 => self.start.octet(index),
+            2..=3 => self.length.octet(index - 2),
             4 => self.control,
             5 => status,
             6 => u8::from(self.enable),
@@ -75,11 +70,11 @@ impl Setting {
     {
         match index {
             0..=1 => Setting {
-                start: with_octet16(self.start, index, octet),
+                start: self.start.with_octet(index, octet),
                 ..self
             },
             2..=3 => Setting {
-                length: with_octet16(self.length, index - 2, octet),
+                length: self.length.with_octet(index - 2, octet),
                 ..self
             },
             4 => Setting {
@@ -146,7 +141,8 @@ impl Window {
     pub(crate) fn in_memory(self, size: usize) -> bool
         ensures { result ≡ in_memory size self }
     {
-        self.start >= 0x1000 && (self.start - 0x1000) as usize + self.area_size() as usize <= size
+        let first = self.start.checked_sub(0x1000);
+        first.is_some_and(|first| usize::from(first) + self.area_size() as usize <= size)
     }
 
     // How far an address of the area stands from the window's start.

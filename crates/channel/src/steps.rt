@@ -3,20 +3,19 @@ ghost use Rattle.std.specs.Prelude.{◌≡◌, ◌≤◌, true};
 ghost use Rattle.channel.specs.Services.{taken_by, touched_by, closed_by, closes, accessed, left, cancelled, number_of, present, roles_opened, shown_opened, emptied, begun, facts_of, writing_done, reading_done, writing_done_if, reading_done_if, at_once, other_side, with_store, after_store, opened_if, opened, with_fetch, after_fetch, store_place, fetch_place, frame_left, after_kept, after_dropped, shown_number, kind_bits, status_of};
 ghost use Rattle.channel.specs.Windows.{place_in};
 
-use crate::facts::{Facts, is_master};
+use crate::facts::Facts;
 use crate::service::{Buffer, Roles, Service, Shown, Transaction};
 use crate::setting::{Kind, Window};
 use access::Side;
 
 impl Transaction {
-    // The octets taken, 0 if none is open.
+    // The octets taken: 0 if none is open, since an open one has taken at least 1.
     fn taken(self) -> u16
         ensures { result ≡ taken_by self }
     {
         match self {
-            Transaction::Idle => 0,
-            Transaction::Open { taken, accessed: _ } => taken,
-            Transaction::Waiting => 0,
+            Transaction::Open { taken, .. } => taken,
+            Transaction::Idle | Transaction::Waiting => 0,
         }
     }
 
@@ -24,28 +23,20 @@ impl Transaction {
     fn touched(self) -> bool
         ensures { result ≡ touched_by self }
     {
-        match self {
-            Transaction::Idle => false,
-            Transaction::Open { taken: _, accessed } => accessed,
-            Transaction::Waiting => true,
-        }
+        matches!(
+            self,
+            Transaction::Open { accessed: true, .. } | Transaction::Waiting
+        )
     }
 
     // Has the running frame closed it?
     fn closed(self) -> bool
         ensures { result ≡ closed_by self }
     {
-        match self {
-            Transaction::Idle => false,
-            Transaction::Open {
-                taken: _,
-                accessed: _,
-            } => false,
-            Transaction::Waiting => true,
-        }
+        matches!(self, Transaction::Waiting)
     }
 
-    // One more access, by `side`, in a window of this length.
+    // One more access, by `side`; the window's length says that one more than the offset fits.
     fn accessed(self, side: Side, offset: u16, window: Window) -> Transaction
         ensures { result ≡ accessed side self offset (closes window offset) }
     {
@@ -54,7 +45,7 @@ impl Transaction {
         } else {
             Transaction::Open {
                 taken: self.taken().max(offset + 1),
-                accessed: is_master(side),
+                accessed: side == Side::Master,
             }
         }
     }
@@ -64,12 +55,11 @@ impl Transaction {
         ensures { result ≡ left self }
     {
         match self {
-            Transaction::Idle => Transaction::Idle,
-            Transaction::Open { taken, accessed: _ } => Transaction::Open {
+            Transaction::Open { taken, .. } => Transaction::Open {
                 taken,
                 accessed: false,
             },
-            Transaction::Waiting => Transaction::Idle,
+            Transaction::Idle | Transaction::Waiting => Transaction::Idle,
         }
     }
 
@@ -89,11 +79,7 @@ impl Buffer {
     fn number(self) -> u8
         ensures { result ≡ number_of self }
     {
-        match self {
-            Buffer::First => 0,
-            Buffer::Second => 1,
-            Buffer::Third => 2,
-        }
+        self as u8
     }
 }
 
@@ -102,15 +88,21 @@ impl Shown {
     fn present(self) -> bool
         ensures { result ≡ present self }
     {
-        match self {
-            Shown::Nothing => false,
-            Shown::Ready => true,
-            Shown::Fetch => true,
-        }
+        !matches!(self, Shown::Nothing)
     }
 }
 
 impl Window {
+    // The side that reads.
+    fn fetches(self) -> Side
+        ensures { result ≡ other_side self.stores }
+    {
+        match self.stores {
+            Side::Master => Side::Local,
+            Side::Local => Side::Master,
+        }
+    }
+
     // The access at the last offset closes a transaction.
     fn closes(self, offset: u16) -> bool
         ensures { result ≡ closes self offset }
@@ -118,35 +110,23 @@ impl Window {
         u32::from(self.length) <= u32::from(offset) + 1
     }
 
+    // The local side's transaction completes on closing, the master's waits.
+    fn completes(self, side: Side, offset: u16) -> bool
+        ensures { result ≡ at_once side (closes self offset) }
+    {
+        side == Side::Local && self.closes(offset)
+    }
+
     // Where an offset of a buffer stands in the memory.
     fn place(self, buffer: Buffer, offset: u16) -> u32
         ensures { result ≡ place_in self (number_of buffer) offset }
     {
         let first = u32::from(self.start).saturating_sub(0x1000);
-        match self.kind {
-            Kind::Mailbox => first + u32::from(offset),
-            Kind::Buffered => first
-                + u32::from(buffer.number()) * u32::from(self.length)
-                + u32::from(offset),
-        }
-    }
-}
-
-fn other_side(side: Side) -> Side
-    ensures { result ≡ other_side side }
-{
-    match side {
-        Side::Master => Side::Local,
-        Side::Local => Side::Master,
-    }
-}
-
-fn completes_at_once(side: Side, window: Window, offset: u16) -> bool
-    ensures { result ≡ at_once side (closes window offset) }
-{
-    match side {
-        Side::Local => window.closes(offset),
-        Side::Master => false,
+        let number = match self.kind {
+            Kind::Mailbox => 0,
+            Kind::Buffered => buffer.number(),
+        };
+        first + u32::from(number) * u32::from(self.length) + u32::from(offset)
     }
 }
 
@@ -201,32 +181,27 @@ impl Service {
     pub fn after_store(self, offset: u16) -> Service
         ensures { result ≡ after_store self offset }
     {
-        let stored = self.with_store(offset);
-        if completes_at_once(self.window.stores, self.window, offset) {
-            stored.writing_done()
-        } else {
-            stored
-        }
+        let window = self.window;
+        self.with_store(offset)
+            .writing_done_if(window.completes(window.stores, offset))
     }
 
     // A fetch at this offset was done.
     pub fn after_fetch(self, offset: u16) -> Service
         ensures { result ≡ after_fetch self offset }
     {
-        let fetched = self.opened().with_fetch(offset);
-        if completes_at_once(other_side(self.window.stores), self.window, offset) {
-            fetched.reading_done()
-        } else {
-            fetched
-        }
+        let window = self.window;
+        self.opened()
+            .with_fetch(offset)
+            .reading_done_if(window.completes(window.fetches(), offset))
     }
 
     // The running frame's end is kept: what it closed completes.
     pub fn after_kept(self) -> Service
         ensures { result ≡ after_kept self }
     {
-        self.writing_kept()
-            .reading_kept(self.reading.closed())
+        self.writing_done_if(self.writing.closed())
+            .reading_done_if(self.reading.closed())
             .frame_left()
     }
 
@@ -249,7 +224,8 @@ impl Service {
     }
 
     fn kind_bits(self) -> u8
-        ensures { (result ≡ kind_bits self.window.kind self) × (result ≤ 48) }
+        ensures value { result ≡ kind_bits self.window.kind self }
+        ensures small { result ≤ 48 }
     {
         match self.window.kind {
             Kind::Mailbox => 8 * u8::from(self.shown.present()),
@@ -258,7 +234,8 @@ impl Service {
     }
 
     fn shown_number(self) -> u8
-        ensures { (result ≡ shown_number self.roles self.shown) × (result ≤ 3) }
+        ensures value { result ≡ shown_number self.roles self.shown }
+        ensures small { result ≤ 3 }
     {
         match self.shown {
             Shown::Nothing => 3,
@@ -284,9 +261,7 @@ impl Service {
     {
         let window = self.window;
         Service {
-            reading: self
-                .reading
-                .accessed(other_side(window.stores), offset, window),
+            reading: self.reading.accessed(window.fetches(), offset, window),
             ..self
         }
     }
@@ -296,20 +271,14 @@ impl Service {
         ensures { result ≡ opened self }
     {
         if self.reading.taken() == 0 {
-            self.opening()
+            Service {
+                roles: self.roles.opened(self.shown),
+                shown: self.shown.opened(),
+                write_event: false,
+                ..self
+            }
         } else {
             self
-        }
-    }
-
-    fn opening(self) -> Service
-        ensures { result ≡ opened_if true self }
-    {
-        Service {
-            roles: self.roles.opened(self.shown),
-            shown: self.shown.opened(),
-            write_event: false,
-            ..self
         }
     }
 
@@ -322,7 +291,7 @@ impl Service {
             roles: Roles {
                 store: self.roles.ready,
                 ready: self.roles.store,
-                fetch: self.roles.fetch,
+                ..self.roles
             },
             shown: Shown::Ready,
             write_event: true,
@@ -342,20 +311,16 @@ impl Service {
         }
     }
 
-    fn writing_kept(self) -> Service
-        ensures { result ≡ writing_done_if (closed_by self.writing) self }
+    fn writing_done_if(self, done: bool) -> Service
+        ensures { result ≡ writing_done_if done self }
     {
-        if self.writing.closed() {
-            self.writing_done()
-        } else {
-            self
-        }
+        if done { self.writing_done() } else { self }
     }
 
-    fn reading_kept(self, closed: bool) -> Service
-        ensures { result ≡ reading_done_if closed self }
+    fn reading_done_if(self, done: bool) -> Service
+        ensures { result ≡ reading_done_if done self }
     {
-        if closed { self.reading_done() } else { self }
+        if done { self.reading_done() } else { self }
     }
 
     fn frame_left(self) -> Service
@@ -375,13 +340,12 @@ impl Roles {
         ensures { result ≡ roles_opened shown self }
     {
         match shown {
-            Shown::Nothing => self,
             Shown::Ready => Roles {
-                store: self.store,
                 ready: self.fetch,
                 fetch: self.ready,
+                ..self
             },
-            Shown::Fetch => self,
+            Shown::Nothing | Shown::Fetch => self,
         }
     }
 }
@@ -391,9 +355,8 @@ impl Shown {
         ensures { result ≡ shown_opened self }
     {
         match self {
-            Shown::Nothing => Shown::Nothing,
             Shown::Ready => Shown::Fetch,
-            Shown::Fetch => Shown::Fetch,
+            Shown::Nothing | Shown::Fetch => self,
         }
     }
 

@@ -1,5 +1,6 @@
 -- Each part of a step keeps what the events tell. Assumes nothing.
 use Rattle.std.proofs.Common.{◌≡◌, ℕ, ◌<◌, ◌≤◌, Bool, true, false, cond, not, ◌&&◌, eqb, ltb, List, [], ◌∷◌, length, get_or, set, sym, refl, ap, ◌∙◌, subst, arith}
+use Rattle.std.proofs.Math.Bool.{and-true}
 use Rattle.std.proofs.lemmas.List.{length_push}
 use Rattle.std.proofs.lemmas.Bool.{eqb-true, eqb-false, lt-ltb, le-ltb, and_right, false≢true}
 use Rattle.access.specs.declared.Side.{Side}
@@ -21,10 +22,6 @@ seen-some : (n : ℕ) (xs : Accesses) (rs : List Reading) → 0 < taken_in xs �
 seen-some n [] rs h = absurd (omega arith)
 seen-some n (x ∷ xs) rs h = refl
 
-and_yes : (b c : Bool) → c ≡ true → (b && c) ≡ b
-and_yes true c e = e
-and_yes false c e = refl
-
 module _ (m : List ℕ) (s : Service) (t : Story) (h : Both m s t) where
   abbrev i : Parts m s t
   i = h.parts
@@ -43,7 +40,7 @@ module _ (m : List ℕ) (s : Service) (t : Story) (h : Both m s t) where
         let y = extent-open s.window.length s.writing more in let x = i.writing.taken in let o = eqb-false (taken_by s.writing) 0 z in
         let q : before_this t.opened (length t.read) t.writing ≡ t.opened = goes_on t.opened (length t.read) t.writing (omega arith) in
         let b = e.by-then in
-        (omega arith, and_yes s.read_event true refl ∙ (e.read-event ∙ ap (λ (n : ℕ). ltb n (length t.read)) (sym q)))
+        (omega arith, and-true s.read_event ∙ (e.read-event ∙ ap (λ (n : ℕ). ltb n (length t.read)) (sym q)))
 
     pub stored-both : Both (set m (store_place s k) v) (with_store s k) (add_store t k v)
     stored-both =

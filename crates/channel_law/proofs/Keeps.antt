@@ -1,6 +1,7 @@
 -- Each call keeps the invariant: a done store, a done fetch, a kept and a dropped frame end, an enabling, a change of the memory outside the area.
 -- Assumes nothing.
 use Rattle.std.proofs.Common.{◌≡◌, ℕ, ◌+◌, ◌-◌, ◌<◌, Bool, true, false, cond, ◌&&◌, ◌||◌, eqb, ltb, leb, List, [], length, get_or, set, Ok, sym, refl, ap, ◌∙◌, subst, subst₂, ⊎_elim, arith}
+use Rattle.std.proofs.Math.Bool.{or-false}
 use Rattle.std.proofs.lemmas.List.{get_or-set_other, length-set}
 use Rattle.std.proofs.lemmas.Bool.{leb-false, le-leb, lt-leb, eq-eqb, ne_eqb, lt-ltb, le-ltb, ltb-false, and_from, cases_eq, cases_Bool, and_cases, or_parts, true≢false, false≢true}
 use Rattle.access.specs.declared.Side.{Side}
@@ -69,10 +70,6 @@ stored-told Local L x y u c n f g = sym (extent-open L x f.local-closed) ∙ sym
 fetched-told : (p : Side) (L : ℕ) (x y : Transaction) (u c : Bool) (n : ℕ) → Flags p x y u c → n ≡ extent L y → taken_by y ≡ cond (is_master (other_side p) && c) 0 n
 fetched-told Master L x y u c n f g = sym (extent-open L y f.local-closed) ∙ sym g
 fetched-told Local L x y u c n f g = taken-master L y c n f.closed g
-
-or-false : (b : Bool) → (b || false) ≡ b
-or-false true = refl
-or-false false = refl
 
 closed-told : (p : Side) (x y : Transaction) (u c : Bool) → Flags p x y u c → (closed_by x || closed_by y) ≡ c
 closed-told Master x y u c f = ap (λ (b : Bool). closed_by x || b) f.local-closed ∙ (or-false (closed_by x) ∙ f.closed)
@@ -172,7 +169,7 @@ reading-open Local x y u c f e = (or_parts (closed_by x) (closed_by y) e).1
 
 -- a mailbox that is stored into is not full
 not_full : (q : Kind) (e d : ℕ) (p : Bool) (ws : List Accesses) (b : ℕ) (rs : List Accesses) (n : ℕ) → KindHeld q e d p ws b rs → e ≡ n → (n ≡ 0 → q ≡ Mailbox → p ≡ false) → q ≡ Mailbox → p ≡ false
-not_full Buffered e d p ws b rs n h z g m = absurd (let y : ◌≡◌ {A = ℕ} 0 1 = cc in omega arith)
+not_full Buffered e d p ws b rs n h z g m = cc
 not_full Mailbox e d p ws b rs n h z g m = ⊎_elim (λ f. g (sym z ∙ h.quiet f) refl) (λ f. f) (cases_Bool p)
 
 pub store-held : (m : List ℕ) (s : Service) (t : Story) → Held m s t → (side : Side) (k v j : ℕ) → asked (facts_of s) side Write k ≡ Ok j → Held (set m (store_place s k) v) (after_store s k) (stored_at k v t)

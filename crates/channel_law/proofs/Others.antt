@@ -1,10 +1,9 @@
 -- One channel beside others: accepted enablings, and areas that do not touch. Assumes nothing.
-use Rattle.std.proofs.Common.{◌≡◌, ℕ, ◌+◌, ◌-◌, ◌≤◌, Bool, true, false, cond, not, ltb, leb, List, [], ◌∷◌, Some, None, Ok, Err, Option, Result, refl, subst, ⊎_elim, arith}
+use Rattle.std.proofs.Common.{◌≡◌, ℕ, ◌+◌, ◌-◌, ◌≤◌, true, false, not, ltb, leb, List, [], ◌∷◌, Some, None, Ok, Option, subst, ⊎_elim, arith}
 use Rattle.std.proofs.lemmas.Bool.{leb-true, leb-false, ltb-true, ltb-false, le-leb, lt-ltb, and_parts, and_from, and_cases, or_parts, not-false, cases_Bool}
 use Rattle.channel.specs.declared.setting.Kind.{Kind}
 use Rattle.channel.specs.declared.setting.Kind.TheVariants.{Buffered, Mailbox}
 use Rattle.channel.specs.declared.setting.Window.{Window}
-use Rattle.channel.specs.declared.setting.Denial.{Denial}
 use Rattle.channel.specs.declared.setting.Denial.TheVariants.{Length, Memory, Overlap}
 use Rattle.channel.specs.declared.service.Service.{Service}
 use Rattle.channel.specs.declared.record.Channel.{Channel}
@@ -13,13 +12,10 @@ use Rattle.channel.specs.Windows.{size_of, area_size, in_memory}
 use Rattle.channel.specs.Areas.{first_of, last_of, touches, touches_in, touches_any, judged_window, judged_if}
 use Rattle.channel_law.specs.Runs.{in_area}
 use Rattle.channel_law.specs.Law.{Fits}
+use Rattle.channel_law.proofs.Asked.{passes}
 use Rattle.channel_law.specs.Enabling.{Disjoint, DisjointIn, DisjointAll, EnablingsFit}
 
 -- AN ACCEPTED ENABLING
-denied : (b : Bool) (r : Denial) (x : Result Window Denial) (w : Window) → cond b (Err r) x ≡ Ok w → (b ≡ false) × (x ≡ Ok w)
-denied true r x w e = absurd (let z : ◌≡◌ {A = ℕ} 0 1 = cc in omega arith)
-denied false r x w e = (refl, e)
-
 pub apart-disjoint : (w v : Window) → touches w v ≡ false → Disjoint w v
 apart-disjoint w v e a p q r s =
     ⊎_elim (λ x. let y = leb-false (first_of w) (last_of v) x in omega arith) (λ x. let y = leb-false (first_of v) (last_of w) x in omega arith)
@@ -35,15 +31,15 @@ all-disjoint w (c ∷ cs) e = let p = or_parts (touches_in w c.service) (touches
 
 judged-fits : (size : ℕ) (cs : List Channel) (v w : Window) → judged_window size cs v ≡ Ok w → Fits size w × DisjointAll w cs
 judged-fits size cs v w e =
-    let a = denied (ltb v.length 2) Length _ w e in
-    let b = denied (not (in_memory size v)) Memory _ w a.1 in
-    let c = denied (touches_any v cs) Overlap _ w b.1 in
+    let a = passes Length (ltb v.length 2) _ w e in
+    let b = passes Memory (not (in_memory size v)) _ w a.1 in
+    let c = passes Overlap (touches_any v cs) _ w b.1 in
     let is : v ≡ w = (let z = c.1 in cc) in
     subst (λ (u : Window). Fits size u × DisjointAll u cs) is
     (record { long = ltb-false v.length 2 a.0; room = not-false _ b.0 }, all-disjoint v cs c.0)
 
 judged-if : (size : ℕ) (cs : List Channel) (o : Option Window) (w : Window) → judged_if size cs o ≡ Ok w → Fits size w × DisjointAll w cs
-judged-if size cs None w e = absurd (let z : ◌≡◌ {A = ℕ} 0 1 = cc in omega arith)
+judged-if size cs None w e = absurd cc
 judged-if size cs (Some v) w e = judged-fits size cs v w e
 
 pub enablings-fit : EnablingsFit

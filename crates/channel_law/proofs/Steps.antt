@@ -34,7 +34,7 @@ extent-closed L (Open n f) e = absurd (false≢true e)
 extent-closed L Waiting e = refl
 
 no_kind : Mailbox ≡ Buffered → ⊥
-no_kind e = let z : ◌≡◌ {A = ℕ} 0 1 = cc in omega arith
+no_kind e = cc
 
 kinds : (q : Kind) → (q ≡ Mailbox) ⊎ (q ≡ Buffered)
 kinds Mailbox = inl refl

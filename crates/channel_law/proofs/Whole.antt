@@ -1,5 +1,6 @@
 -- The law, by induction over the calls. Assumes nothing.
 use Rattle.std.proofs.Common.{◌≡◌, ℕ, suc, ◌+◌, ◌*◌, ◌<◌, ◌≤◌, Bool, true, false, cond, not, ◌&&◌, eqb, leb, ◌⊎◌, List, [], ◌∷◌, length, Some, None, get_or, set, Ok, Err, Result, sym, refl, ap, ◌∙◌, subst, inl, inr, arith}
+use Rattle.std.proofs.Math.Bool.{not-not}
 use Rattle.std.proofs.lemmas.Bool.{le-leb, lt-leb, eqb-false, ne_eqb, cond-false, not_from_true}
 use Rattle.access.specs.declared.Side.{Side}
 use Rattle.access.specs.declared.Direction.{Direction}
@@ -84,10 +85,6 @@ shown-number : (r : Roles) (x : Shown) → (shown_number r x ≤ 3) × (eqb (sho
 shown-number r Nothing = (omega arith, refl)
 shown-number r Ready = let b = number-below r.ready in (omega arith, ne_eqb _ 3 (λ z. omega arith))
 shown-number r Fetch = let b = number-below r.fetch in (omega arith, ne_eqb _ 3 (λ z. omega arith))
-
-not-not : (b : Bool) → not (not b) ≡ b
-not-not true = refl
-not-not false = refl
 
 status-of : (m : List ℕ) (s : Service) (t : Story) → Held m s t → (q : Kind) → present s.shown ≡ message_told q t → StatusOf q (bit s.write_event + 2 * bit s.read_event + kind_bits q s) t
 status-of m s t h Mailbox p =

@@ -1,6 +1,5 @@
 -- What is known of the channels, and the search among it.
-use Rattle.std.proofs.Common.{◌≡◌, ℕ, ◌+◌, cond, ◌&&◌, leb, List, [], ◌∷◌, get_or, Some, None, Option, sym, refl}
-use lib.ListN.{get_or-map}
+use Rattle.std.proofs.Common.{◌≡◌, ℕ, ◌+◌, cond, ◌&&◌, leb, List, [], ◌∷◌, Some, None, Option, sym, refl}
 use Rattle.std.specs.Option.{option_map}
 use Rattle.channel.specs.declared.service.Service.{Service}
 use Rattle.channel.specs.declared.record.Channel.{Channel}
@@ -9,10 +8,7 @@ use Rattle.channel.specs.Areas.{low, high, low_in, high_in}
 use Rattle.std.specs.List.{position_from}
 use Rattle.cover.specs.Lowest.{covers}
 use Rattle.rules.specs.Questions.{low_of, high_of}
-use Rattle.rules.specs.Steps.{known, out_of_service, service_at}
-
-pub known_at : (cs : List Channel) (n : ℕ) → option_map facts_of (service_at cs n) ≡ get_or (known cs) n None
-known_at cs n = sym (get_or-map (λ (c : Channel). option_map facts_of c.service) cs n out_of_service)
+use Rattle.rules.specs.Steps.{known}
 
 covers-same : (a : ℕ) (o : Option Service) → (leb (low_of (option_map facts_of o)) a && leb a (high_of (option_map facts_of o))) ≡ (leb (low_in o) a && leb a (high_in o))
 covers-same a None = refl

@@ -2,16 +2,12 @@
 use Rattle.std.specs.Prelude.{ℕ, List, [], ◌∷◌, map, Some, None, Option}
 use Rattle.access.specs.declared.Side.TheVariants.{Master}
 use Rattle.access.specs.declared.Direction.{Direction}
-use Rattle.mapping.specs.Mapping.{listed}
 use Rattle.frame.specs.Frames.{given}
 use Rattle.frame.specs.declared.command.Addresses.{Addresses}
 use Rattle.frame.specs.declared.outcome.Outcome.{Outcome}
-use Rattle.frame.specs.declared.outcome.Outcome.TheVariants.{NotWanted, Done, Refused}
 use Rattle.rules.specs.declared.fault.Fault.{Fault}
-use Rattle.rules.specs.declared.data.Registers.{Registers}
 use Rattle.rules.specs.declared.data.Running.{Running}
 use Rattle.rules.specs.declared.data.Access.{Access}
-use Rattle.rules.specs.Registers.{register_of, with_register}
 use Rattle.rules.specs.Octets.{plain, through_mapping, waiting_after}
 use Rattle.core_steps.specs.declared.octets.OctetAccesses.{OctetAccesses}
 use Rattle.core_steps.specs.declared.octets.OctetAccesses.TheVariants.{Nothing, One, Mapped}
@@ -19,21 +15,11 @@ use Rattle.core_steps.specs.declared.octets.OctetAccesses.TheVariants.{Nothing, 
 abbrev pub accesses_in : Direction → OctetAccesses → List Access
 accesses_in d Nothing = []
 accesses_in d (One a) = plain Master d a ∷ []
-accesses_in d (Mapped x) = map (through_mapping d) (listed x)
+accesses_in d (Mapped x) = map (through_mapping d) x.items
 
 abbrev pub first_address : List Access → Option ℕ
 first_address [] = None
 first_address (x ∷ xs) = Some x.address
-
--- the waiting registers, by the address of the first write
-abbrev pub waiting_at : Registers → Option ℕ → (o : ℕ) → Registers
-waiting_at r None o = r
-waiting_at r (Some a) o = with_register r (register_of a) o
-
-abbrev pub waiting_from : Registers → Option ℕ → (o : ℕ) → Outcome (Unit {0}) Fault → Registers
-waiting_from r a o NotWanted = r
-waiting_from r a o (Done u) = waiting_at r a o
-waiting_from r a o (Refused f) = r
 
 -- the running frame after an octet
 abbrev pub stepped_running : Running → (o : ℕ) → Addresses → List Access → Outcome ℕ Fault → Outcome (Unit {0}) Fault → Running

@@ -1,17 +1,19 @@
 // What a frame's end makes of the channels: services that go on, that end and that begin.
-ghost use Rattle.std.specs.Prelude.{◌≡◌, map, Some, slice_set};
-ghost use Rattle.rules.specs.declared.fault.Fault.TheVariants.{Station as Refuses};
-ghost use Rattle.rules.specs.declared.fault.Reason.TheVariants.{Enabling as OfEnabling};
-ghost use Rattle.rules.specs.Enabling.{disabled, decided, asks, enabled_one, enabled};
+ghost use Rattle.std.specs.Prelude.{◌≡◌, map};
+ghost use Rattle.rules.specs.Enabling.{decided, asks, enabled_one, enabled};
 ghost use Rattle.rules.specs.Steps.{out_of_service, window_in, begun_channel, kept_channel, dropped_channel, kept_channels};
 ghost use Rattle.core_steps.specs.Enablings.{enabled_as, lasting_kept, all_lasting};
 
+use crate::questions::refused_for;
 use crate::registers::{service_at, set_service};
+use access::list::replaced;
 use channel::{Channel, Denial, Service, Setting, Window};
 use rules::data::Registers;
 use rules::fault::{Fault, Reason};
+use std::array;
 
 // The channels, their settings, and the lowest enabling that was refused.
+// Two lists, as in the core: the settings also wait in a running frame, where there are no services.
 #[derive(Clone, Copy)]
 pub struct Enabling {
     pub channels: [Channel; 8],
@@ -31,11 +33,7 @@ fn dropped_channel(channel: Channel) -> Channel
 pub fn dropped_channels(channels: &[Channel; 8]) -> [Channel; 8]
     ensures { result ≡ map dropped_channel channels.now }
 {
-    let mut dropped = *channels;
-    for channel in dropped.iter_mut() {
-        *channel = dropped_channel(*channel);
-    }
-    dropped
+    channels.map(dropped_channel)
 }
 
 fn kept_channel(channel: Channel) -> Channel
@@ -53,91 +51,49 @@ fn lasting_channel(setting: Setting, channel: Channel) -> Channel
     if setting.enable {
         kept_channel(channel)
     } else {
-        Channel { service: None }
+        Channel::default()
     }
 }
 
 fn lasting_channels(settings: &[Setting; 8], channels: &[Channel; 8]) -> [Channel; 8]
     ensures { result ≡ all_lasting settings.now channels.now }
 {
-    let mut lasting = *channels;
-    for i in 0..8 {
-        lasting[i] = lasting_channel(settings[i], lasting[i]);
+    array::from_fn(|i| lasting_channel(settings[i], channels[i]))
+}
+
+impl Enabling {
+    fn asks(&self, index: u8, setting: Setting) -> bool
+        ensures { result ≡ asks window_in begun_channel out_of_service index setting (enabled_as self.now) }
+    {
+        setting.enable && service_at(&self.channels, index).is_none()
     }
-    lasting
-}
 
-fn asks(index: u8, setting: Setting, so_far: &Enabling) -> bool
-    ensures { result ≡ asks window_in begun_channel out_of_service index setting (enabled_as so_far.now) }
-{
-    setting.enable && service_at(&so_far.channels, index).is_none()
-}
-
-fn disabled_at(settings: [Setting; 8], index: u8, setting: Setting) -> [Setting; 8]
-    ensures { result ≡ slice_set settings index (disabled setting) }
-{
-    let mut changed = settings;
-    if index < 8 {
-        changed[index as usize] = Setting {
-            enable: false,
-            ..setting
-        };
+    // A refused one keeps enable 0.
+    fn decide(&mut self, index: u8, setting: Setting, judged: Result<Window, Denial>)
+        ensures { enabled_as self.new ≡ decided window_in begun_channel out_of_service index setting judged (enabled_as self.old) }
+    {
+        match judged {
+            Ok(window) => set_service(&mut self.channels, index, Service::begun(window)),
+            Err(denial) => {
+                let disabled = Setting {
+                    enable: false,
+                    ..setting
+                };
+                self.settings = replaced(self.settings, index, disabled);
+                self.denied = self
+                    .denied
+                    .or(Some(refused_for(index, Reason::Enabling(denial), 0)));
+            }
+        }
     }
-    changed
-}
 
-fn begun_at(channels: [Channel; 8], index: u8, window: Window) -> [Channel; 8]
-    ensures { result ≡ slice_set channels index (begun_channel window) }
-{
-    let mut changed = channels;
-    set_service(&mut changed, index, Service::begun(window));
-    changed
-}
-
-fn denial_of(index: u8, denial: Denial) -> Fault
-    ensures { result ≡ Refuses (OfEnabling denial) 0 (Some index) }
-{
-    Fault::Station {
-        reason: Reason::Enabling(denial),
-        address: 0,
-        channel: Some(index),
-    }
-}
-
-// A refused one keeps enable 0.
-fn decided(
-    index: u8,
-    setting: Setting,
-    judged: Result<Window, Denial>,
-    so_far: Enabling,
-) -> Enabling
-    ensures { enabled_as result ≡ decided window_in begun_channel out_of_service index setting judged (enabled_as so_far) }
-{
-    match judged {
-        Ok(window) => Enabling {
-            channels: begun_at(so_far.channels, index, window),
-            ..so_far
-        },
-        Err(denial) => Enabling {
-            settings: disabled_at(so_far.settings, index, setting),
-            denied: so_far.denied.or(Some(denial_of(index, denial))),
-            ..so_far
-        },
-    }
-}
-
-fn enable_one(size: usize, index: u8, setting: Setting, so_far: Enabling) -> Enabling
-    ensures { enabled_as result ≡ enabled_one window_in begun_channel out_of_service size index setting (enabled_as so_far) }
-{
-    if asks(index, setting, &so_far) {
-        decided(
-            index,
-            setting,
-            setting.judged(size, &so_far.channels),
-            so_far,
-        )
-    } else {
-        so_far
+    fn enable_one(&mut self, size: usize, index: u8, setting: Setting)
+        ensures { enabled_as self.new ≡ enabled_one window_in begun_channel out_of_service size index setting (enabled_as self.old) }
+    {
+        if self.asks(index, setting) {
+            let judged = setting.judged(size, &self.channels);
+            self.decide(index, setting, judged);
+        }
     }
 }
 
@@ -150,8 +106,8 @@ fn enable_all(size: usize, settings: &[Setting; 8], channels: [Channel; 8]) -> E
         settings: *settings,
         denied: None,
     };
-    for i in 0..8 {
-        so_far = enable_one(size, i, settings[i as usize], so_far);
+    for (index, setting) in settings.iter().enumerate() {
+        so_far.enable_one(size, index as u8, *setting);
     }
     so_far
 }

@@ -3,7 +3,7 @@ ghost use Rattle.std.specs.Prelude.{◌≡◌, map};
 ghost use Rattle.access.specs.declared.Direction.TheVariants.{Write as Writing};
 ghost use Rattle.frame.specs.Frames.{answered};
 ghost use Rattle.rules.specs.Octets.{through_mapping, accesses_at, wants, accesses_for, begun_running, waiting_after, mine};
-ghost use Rattle.core_steps.specs.Accessing.{accesses_in, first_address, waiting_at, waiting_from, stepped_running};
+ghost use Rattle.core_steps.specs.Accessing.{accesses_in, first_address, stepped_running};
 
 use crate::registers::{register_at, with_register};
 use access::Direction;
@@ -14,11 +14,12 @@ use frame::progress::{Progress, Reason};
 use mapping::accesses::accesses_at;
 use mapping::entity::Entity;
 use mapping::mapped::{Access, Accesses};
-use rules::data::{Registers, Running};
+use rules::data::{Core, Registers, Running};
 use rules::fault::Fault;
 
 // The accesses of an octet in one direction: none, one at a physical address, or those of a mapped octet.
-#[derive(Clone, Copy)]
+// Three kinds and not one list: a physical octet makes one access, and fills no list for it.
+#[derive(Drop)]
 pub enum OctetAccesses {
     Nothing,
     One(u32),
@@ -57,43 +58,13 @@ pub fn accesses_for(
     }
 }
 
-fn first_mapped(list: &[Access]) -> Option<u32>
-    ensures { result ≡ first_address (map (through_mapping Writing) list.now) }
-{
-    list.first().map(|access| access.address)
-}
-
 fn first_write(writes: &OctetAccesses) -> Option<u32>
     ensures { result ≡ first_address (accesses_in Writing writes.now) }
 {
     match writes {
         OctetAccesses::Nothing => None,
         OctetAccesses::One(address) => Some(*address),
-        OctetAccesses::Mapped(list) => first_mapped(list.as_slice()),
-    }
-}
-
-fn waiting_at(waiting: Registers, address: Option<u32>, octet: u8) -> Registers
-    ensures { result ≡ waiting_at waiting address octet }
-{
-    match address {
-        None => waiting,
-        Some(address) => with_register(waiting, register_at(address), octet),
-    }
-}
-
-fn waiting_from(
-    waiting: Registers,
-    address: Option<u32>,
-    octet: u8,
-    write: Outcome<(), Fault>,
-) -> Registers
-    ensures { result ≡ waiting_from waiting address octet write }
-{
-    match write {
-        Outcome::NotWanted => waiting,
-        Outcome::Done(()) => waiting_at(waiting, address, octet),
-        Outcome::Refused(_) => waiting,
+        OctetAccesses::Mapped(list) => list.first().map(|access| access.address),
     }
 }
 
@@ -106,7 +77,10 @@ fn waiting_after(
 ) -> Registers
     ensures { result ≡ waiting_after waiting (accesses_in Writing writes.now) octet write }
 {
-    waiting_from(waiting, first_write(writes), octet, write)
+    match (write, first_write(writes)) {
+        (Outcome::Done(()), Some(address)) => with_register(waiting, register_at(address), octet),
+        _ => waiting,
+    }
 }
 
 // A frame begins.
@@ -135,8 +109,8 @@ pub fn give(
 }
 
 // The running frame, if one runs and the frame that is handed in carries the station's number.
-pub fn mine(number: u16, handed: u16, running: Option<Running>) -> Option<Running>
-    ensures { result ≡ mine number handed running }
+pub fn mine(core: &Core, handed: u16) -> Option<Running>
+    ensures { result ≡ mine core.now.number handed core.now.running }
 {
-    running.filter(|_| number == handed)
+    core.running.filter(|_| core.number == handed)
 }

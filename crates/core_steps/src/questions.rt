@@ -1,29 +1,17 @@
 // The questions before an access that need no memory, in their order: the first no decides.
-ghost use Rattle.std.specs.Prelude.{◌≡◌, not, ◌&&◌, None, slice_index_or};
-ghost use Rattle.bits.specs.Shares.{splits};
+ghost use Rattle.std.specs.Prelude.{◌≡◌, ◌-◌, not, ◌&&◌, None, Some, slice_index_or};
 ghost use Rattle.rules.specs.declared.fault.Fault.TheVariants.{Station as Refuses};
-ghost use Rattle.rules.specs.Questions.{is_write, channel_at, setting_held, asked_register, window_at, asked_channel, asked_area, mappable};
+ghost use Rattle.rules.specs.declared.data.Target.TheVariants.{Free as InFree};
+ghost use Rattle.rules.specs.Questions.{channel_at, setting_held, asked_register, asked_channel, asked_area, mappable};
 ghost use Rattle.rules.specs.Steps.{known};
 
 use crate::registers::{is_listed, may_write, service_at};
 use access::Direction;
 use bits::share::Share;
-use channel::{Channel, Facts, Refusal};
+use channel::{Channel, Facts};
 use cover::lowest_covering;
 use rules::data::{Access, Register, Target};
 use rules::fault::{Fault, Reason};
-
-fn is_write(direction: Direction) -> bool
-    ensures { result ≡ is_write direction }
-{
-    matches!(direction, Direction::Write)
-}
-
-fn splits(share: Share) -> bool
-    ensures { result ≡ splits share }
-{
-    matches!(share, Share::Part { .. })
-}
 
 // What is known of a channel, if it is in service.
 fn facts_at(channels: &[Channel; 8], index: u8) -> Option<Facts>
@@ -33,13 +21,11 @@ fn facts_at(channels: &[Channel; 8], index: u8) -> Option<Facts>
 }
 
 // The channel in whose area an address lies.
+#[tactic(auto, using(crate::proofs::Known::found_at))]
 fn channel_at(channels: &[Channel; 8], address: u32) -> Option<u8>
     ensures { result ≡ channel_at (known channels.now) address }
 {
-    match lowest_covering(channels, address as u64) {
-        None => None,
-        Some(index) => Some(index as u8),
-    }
+    lowest_covering(channels, u64::from(address)).map(|index| index as u8)
 }
 
 // A channel in service keeps its octets 0 to 4.
@@ -47,17 +33,8 @@ fn ask_setting(channels: &[Channel; 8], register: Register, address: u32) -> Res
     ensures { result ≡ setting_held (known channels.now) register address }
 {
     match register {
-        Register::OfChannel { index, octet } => if octet < 5
-            && facts_at(channels, index).is_some()
-        {
-            Err(Fault::Station {
-                reason: Reason::InService,
-                address,
-                channel: Some(index),
-            })
-        } else {
-            Ok(Target::Register(register))
-        },
+        Register::OfChannel { index, octet } if octet < 5 && facts_at(channels, index).is_some() =>
+            Err(refused_for(index, Reason::InService, address)),
         _ => Ok(Target::Register(register)),
     }
 }
@@ -71,14 +48,15 @@ pub fn ask_register(
     ensures { result ≡ asked_register (known channels.now) access register }
 {
     if !is_listed(register) {
-        Err(refused(Reason::NoRegister, access.address))
-    } else if !is_write(access.direction) {
-        Ok(Target::Register(register))
-    } else if !may_write(access.side, register) {
-        Err(refused(Reason::NotWritable, access.address))
-    } else {
-        ask_setting(channels, register, access.address)
+        return Err(refused(Reason::NoRegister, access.address));
     }
+    if access.direction == Direction::Read {
+        return Ok(Target::Register(register));
+    }
+    if !may_write(access.side, register) {
+        return Err(refused(Reason::NotWritable, access.address));
+    }
+    ask_setting(channels, register, access.address)
 }
 
 // A refusal that speaks of no channel.
@@ -92,19 +70,23 @@ pub fn refused(reason: Reason, address: u32) -> Fault
     }
 }
 
-fn ask_window(index: u8, address: u32, offset: Result<u16, Refusal>) -> Result<Target, Fault>
-    ensures { result ≡ window_at index address offset }
+// A refusal that speaks of a channel.
+pub(crate) fn refused_for(channel: u8, reason: Reason, address: u32) -> Fault
+    ensures { result ≡ Refuses reason address (Some channel) }
 {
-    match offset {
-        Ok(offset) => Ok(Target::Window {
-            channel: index,
-            offset,
-        }),
-        Err(refusal) => Err(Fault::Station {
-            reason: Reason::Channel(refusal),
-            address,
-            channel: Some(index),
-        }),
+    Fault::Station {
+        reason,
+        address,
+        channel: Some(channel),
+    }
+}
+
+// The place of an access that is in no area.
+fn free(access: Access) -> Target
+    ensures { result ≡ InFree (access.address - 0x1000) }
+{
+    Target::Free {
+        place: access.address.saturating_sub(0x1000),
     }
 }
 
@@ -112,24 +94,19 @@ fn ask_window(index: u8, address: u32, offset: Result<u16, Refusal>) -> Result<T
 fn ask_channel(index: u8, facts: Option<Facts>, access: Access) -> Result<Target, Fault>
     ensures { result ≡ asked_channel index facts access }
 {
-    match facts {
-        None => Ok(Target::Free {
-            place: access.address.saturating_sub(0x1000),
-        }),
-        Some(facts) => if splits(access.share) {
-            Err(Fault::Station {
-                reason: Reason::SplitOctet,
-                address: access.address,
-                channel: Some(index),
-            })
-        } else {
-            ask_window(
-                index,
-                access.address,
-                facts.ask(access.side, access.direction, access.address),
-            )
-        },
+    let Some(facts) = facts else {
+        return Ok(free(access));
+    };
+    if matches!(access.share, Share::Part { .. }) {
+        return Err(refused_for(index, Reason::SplitOctet, access.address));
     }
+    let offset = facts
+        .ask(access.side, access.direction, access.address)
+        .map_err(|refusal| refused_for(index, Reason::Channel(refusal), access.address))?;
+    Ok(Target::Window {
+        channel: index,
+        offset,
+    })
 }
 
 // What an access reaches at a place that the memory has.
@@ -137,9 +114,7 @@ pub fn ask_area(channels: &[Channel; 8], access: Access) -> Result<Target, Fault
     ensures { result ≡ asked_area (known channels.now) access (channel_at (known channels.now) access.address) }
 {
     match channel_at(channels, access.address) {
-        None => Ok(Target::Free {
-            place: access.address.saturating_sub(0x1000),
-        }),
+        None => Ok(free(access)),
         Some(index) => ask_channel(index, facts_at(channels, index), access),
     }
 }
@@ -148,5 +123,5 @@ pub fn ask_area(channels: &[Channel; 8], access: Access) -> Result<Target, Fault
 pub fn is_mappable(access: Access) -> bool
     ensures { result ≡ not (access.mapped && not (mappable access.address)) }
 {
-    !access.mapped || (0x1000 <= access.address && access.address < 0x10000)
+    !access.mapped || (0x1000..0x10000).contains(&access.address)
 }

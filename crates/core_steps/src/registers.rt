@@ -1,45 +1,39 @@
 // The register map, octet by octet.
 ghost use Rattle.std.specs.Prelude.{◌≡◌, slice_index_or, slice_set};
 ghost use Rattle.channel.specs.Areas.{status_in};
-ghost use Rattle.channel.specs.Settings.{with_octet_at};
-ghost use Rattle.mapping.specs.Registers.{no_entity, with_entity_octet};
-ghost use Rattle.rules.specs.Registers.{register_of, listed, may_write, no_setting, new_registers, fixed_octet, octet_of_register, with_register, with_alias};
+ghost use Rattle.rules.specs.Registers.{register_of, listed, may_write, new_registers, fixed_octet, octet_of_register, with_register, with_alias};
 ghost use Rattle.rules.specs.Steps.{in_service_as, service_at};
 
 use access::Side;
-use access::field::{octet16, with_octet16};
+use access::field::Field;
+use access::list::replaced;
 use channel::{Channel, Service, Setting};
 use mapping::entity::Entity;
-use rules::data::{Register, Registers};
+use rules::data::{Core, Register, Registers};
 
 // What stands at an address.
 pub fn register_at(address: u32) -> Register
     ensures { result ≡ register_of address }
 {
-    if address < 0x000A {
-        Register::Fixed {
+    match address {
+        0x0000..=0x0009 => Register::Fixed {
             octet: address as u8,
-        }
-    } else if 0x0010 <= address && address < 0x0012 {
-        Register::Address {
+        },
+        0x0010..=0x0011 => Register::Address {
             octet: (address - 0x0010) as u8,
-        }
-    } else if 0x0012 <= address && address < 0x0014 {
-        Register::Alias {
+        },
+        0x0012..=0x0013 => Register::Alias {
             octet: (address - 0x0012) as u8,
-        }
-    } else if 0x0600 <= address && address < 0x0680 {
-        Register::OfEntity {
+        },
+        0x0600..=0x067F => Register::OfEntity {
             index: ((address - 0x0600) / 16) as u8,
             octet: ((address - 0x0600) % 16) as u8,
-        }
-    } else if 0x0800 <= address && address < 0x0840 {
-        Register::OfChannel {
+        },
+        0x0800..=0x083F => Register::OfChannel {
             index: ((address - 0x0800) / 8) as u8,
             octet: ((address - 0x0800) % 8) as u8,
-        }
-    } else {
-        Register::Unlisted
+        },
+        _ => Register::Unlisted,
     }
 }
 
@@ -53,24 +47,12 @@ pub(crate) fn is_listed(register: Register) -> bool
 pub(crate) fn may_write(side: Side, register: Register) -> bool
     ensures { result ≡ may_write side register }
 {
-    match (side, register) {
-        (_, Register::Unlisted) => false,
-        (_, Register::Fixed { octet: _ }) => false,
-        (Side::Master, Register::Alias { octet: _ }) => false,
-        (Side::Local, Register::Alias { octet: _ }) => true,
-        (Side::Master, _) => true,
-        (Side::Local, _) => false,
-    }
-}
-
-fn no_setting() -> Setting
-    ensures { result ≡ no_setting }
-{
-    Setting {
-        start: 0,
-        length: 0,
-        control: 0,
-        enable: false,
+    match register {
+        Register::Unlisted | Register::Fixed { .. } => false,
+        Register::Alias { .. } => side == Side::Local,
+        Register::Address { .. } | Register::OfEntity { .. } | Register::OfChannel { .. } => {
+            side == Side::Master
+        }
     }
 }
 
@@ -78,92 +60,60 @@ fn no_setting() -> Setting
 pub fn no_registers() -> Registers
     ensures { result ≡ new_registers }
 {
-    let entity = Entity::new();
-    let setting = no_setting();
-    Registers {
-        address: 0,
-        entities: [entity; 8],
-        settings: [setting; 8],
-    }
+    Registers::default()
 }
 
-fn entity_at(entities: &[Entity; 8], index: u8) -> Entity
-    ensures { result ≡ slice_index_or entities.now index no_entity }
+// The element at an index, or `other` past the last.
+fn element_or<T: Copy>(list: &[T; 8], index: u8, other: T) -> T
+    ensures { result ≡ slice_index_or list.now index other }
 {
-    match entities.get(index as usize) {
-        Some(entity) => *entity,
-        None => Entity::new(),
-    }
-}
-
-fn setting_at(settings: &[Setting; 8], index: u8) -> Setting
-    ensures { result ≡ slice_index_or settings.now index no_setting }
-{
-    match settings.get(index as usize) {
-        Some(setting) => *setting,
-        None => no_setting(),
-    }
+    list.get(index as usize).copied().unwrap_or(other)
 }
 
 // The service of a channel, if it is in service.
 pub fn service_at(channels: &[Channel; 8], index: u8) -> Option<Service>
     ensures { result ≡ service_at channels.now index }
 {
-    match channels.get(index as usize) {
-        Some(channel) => channel.service,
-        None => None,
-    }
+    element_or(channels, index, Channel::default()).service
 }
 
 pub fn set_service(channels: &mut [Channel; 8], index: u8, service: Service)
     ensures { channels.new ≡ slice_set channels.old index (in_service_as service) }
 {
-    if index < 8 {
-        channels[index as usize] = Channel {
-            service: Some(service),
-        };
-    }
-}
-
-fn status_of(service: Option<Service>) -> u8
-    ensures { result ≡ status_in service }
-{
-    let channel = Channel { service };
-    channel.status()
+    let channel = Channel {
+        service: Some(service),
+    };
+    *channels = replaced(*channels, index, channel);
 }
 
 // Eight entities, eight channels and the memory's size in units of 1,024 octets.
 fn fixed_octet(units: u8, index: u8) -> u8
     ensures { result ≡ fixed_octet units index }
 {
-    if index == 4 || index == 5 {
-        8
-    } else if index == 6 {
-        units
-    } else {
-        0
+    match index {
+        4 | 5 => 8,
+        6 => units,
+        _ => 0,
     }
 }
 
 // The octet of a register, of a memory of `units` times 1,024 octets and some.
-pub fn register_octet(
-    units: u8,
-    registers: &Registers,
-    alias: u16,
-    channels: &[Channel; 8],
-    register: Register,
-) -> u8
-    ensures { result ≡ octet_of_register units registers.now alias (λ n. status_in (service_at channels.now n)) register }
+pub fn register_octet(units: u8, core: &Core, register: Register) -> u8
+    ensures { result ≡ octet_of_register units core.now.registers core.now.alias (λ n. status_in (service_at core.now.channels n)) register }
 {
     match register {
         Register::Unlisted => 0,
         Register::Fixed { octet } => fixed_octet(units, octet),
-        Register::Address { octet } => octet16(registers.address, octet),
-        Register::Alias { octet } => octet16(alias, octet),
-        Register::OfEntity { index, octet } => entity_at(&registers.entities, index).octet(octet),
+        Register::Address { octet } => core.registers.address.octet(octet),
+        Register::Alias { octet } => core.alias.octet(octet),
+        Register::OfEntity { index, octet } => {
+            let entity = element_or(&core.registers.entities, index, Entity::default());
+            entity.octet(octet)
+        }
         Register::OfChannel { index, octet } => {
-            let status = status_of(service_at(channels, index));
-            setting_at(&registers.settings, index).octet(octet, status)
+            let channel = element_or(&core.channels, index, Channel::default());
+            let setting = element_or(&core.registers.settings, index, Setting::default());
+            setting.octet(octet, channel.status())
         }
     }
 }
@@ -173,48 +123,32 @@ pub fn with_register(registers: Registers, register: Register, octet: u8) -> Reg
     ensures { result ≡ with_register registers register octet }
 {
     match register {
-        Register::Unlisted => registers,
-        Register::Fixed { octet: _ } => registers,
+        Register::Unlisted | Register::Fixed { .. } | Register::Alias { .. } => registers,
         Register::Address { octet: place } => Registers {
-            address: with_octet16(registers.address, place, octet),
+            address: registers.address.with_octet(place, octet),
             ..registers
         },
-        Register::Alias { octet: _ } => registers,
         Register::OfEntity {
             index,
             octet: place,
-        } => Registers {
-            entities: with_entity(registers.entities, index, place, octet),
-            ..registers
-        },
+        } => {
+            let entity = element_or(&registers.entities, index, Entity::default());
+            Registers {
+                entities: replaced(registers.entities, index, entity.with_octet(place, octet)),
+                ..registers
+            }
+        }
         Register::OfChannel {
             index,
             octet: place,
-        } => Registers {
-            settings: with_setting(registers.settings, index, place, octet),
-            ..registers
-        },
+        } => {
+            let setting = element_or(&registers.settings, index, Setting::default());
+            Registers {
+                settings: replaced(registers.settings, index, setting.with_octet(place, octet)),
+                ..registers
+            }
+        }
     }
-}
-
-fn with_entity(entities: [Entity; 8], index: u8, place: u8, octet: u8) -> [Entity; 8]
-    ensures { result ≡ slice_set entities index (with_entity_octet (slice_index_or entities index no_entity) place octet) }
-{
-    let mut changed = entities;
-    if index < 8 {
-        changed[index as usize] = entity_at(&entities, index).with_octet(place, octet);
-    }
-    changed
-}
-
-fn with_setting(settings: [Setting; 8], index: u8, place: u8, octet: u8) -> [Setting; 8]
-    ensures { result ≡ slice_set settings index (with_octet_at (slice_index_or settings index no_setting) place octet) }
-{
-    let mut changed = settings;
-    if index < 8 {
-        changed[index as usize] = setting_at(&settings, index).with_octet(place, octet);
-    }
-    changed
 }
 
 // The alias after a write of the local side.
@@ -222,7 +156,7 @@ pub fn with_alias(alias: u16, register: Register, octet: u8) -> u16
     ensures { result ≡ with_alias alias register octet }
 {
     match register {
-        Register::Alias { octet: place } => with_octet16(alias, place, octet),
+        Register::Alias { octet: place } => alias.with_octet(place, octet),
         _ => alias,
     }
 }

@@ -1,18 +1,17 @@
 -- Of one channel: today's words give the earlier ones. Assumes nothing.
-use Rattle.std.proofs.Common.{◌≡◌, ℕ, Bool, true, false, cond, not, ◌||◌, List, [], ◌∷◌, length, Some, None, Option, is_some, sym, refl, ap, ◌∙◌}
+use Rattle.std.proofs.Common.{◌≡◌, ℕ, Bool, true, false, cond, not, ◌||◌, List, [], ◌∷◌, Some, None, is_some, refl, ap, ◌∙◌}
 use Rattle.access.specs.declared.Side.{Side}
 use Rattle.access.specs.declared.Direction.{Direction}
 use Rattle.access.specs.declared.Direction.TheVariants.{Read, Write}
 use Rattle.channel.specs.declared.setting.Kind.{Kind}
 use Rattle.channel.specs.declared.setting.Kind.TheVariants.{Buffered, Mailbox}
-use Rattle.channel.specs.declared.setting.Window.{Window}
 use Rattle.channel.specs.declared.facts.Refusal.{Refusal}
 use Rattle.channel.specs.declared.facts.Refusal.TheVariants.{AlreadyClosed, MailboxFull}
 use Rattle.channel_law.specs.Story.{Story, none, closed_writing, closed_reading, message_told}
 use Rattle.channel_law.specs.Runs.{Call, write, read, kept, dropped, elsewhere, Answer, done, got, refused, note}
 use Rattle.channel_law.specs.Law.{AllShow, InOrderOf, full, nothing_there}
 use Rattle.channel_law.specs.Law as today
-use Rattle.earlier_promise.specs.Channel.{WholeOf, Whole, failed, reason, RefusedRightly, InWords, Answered, EachAnswered}
+use Rattle.earlier_promise.specs.Channel.{WholeOf, Whole, failed, reason, RefusedRightly, InWords, EachAnswered}
 
 whole-of : (k : Kind) (t : Story) → AllShow t.written (t.reading ∷ t.over) → InOrderOf k t → WholeOf k t
 whole-of Buffered t shows order = shows

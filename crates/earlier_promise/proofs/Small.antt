@@ -1,13 +1,9 @@
 -- Definitions that moved mean what they meant. Assumes nothing.
-use Rattle.std.proofs.Common.{◌≡◌, ℕ, ◌+◌, ◌/◌, Bool, true, false, cond, List, [], ◌∷◌, Some, refl, ap}
-use Rattle.std.specs.List.{position_from}
+use Rattle.std.proofs.Common.{◌+◌, cond, [], ◌∷◌, Some, refl, ap}
 use Rattle.cover.specs.Lowest.{covers}
-use Rattle.rules.specs.declared.data.Registers.{Registers}
-use Rattle.rules.specs.declared.data.Register.{Register}
 use Rattle.rules.specs.declared.data.Register.TheVariants.{Unlisted, Fixed, Address, Alias, OfEntity, OfChannel}
-use Rattle.rules.specs.Registers as today
-use Rattle.earlier_promise.specs.Search.{lowest-from, SearchesAgree}
-use Rattle.earlier_promise.specs.Shown.{octet_of_register, OctetsAgree}
+use Rattle.earlier_promise.specs.Search.{SearchesAgree}
+use Rattle.earlier_promise.specs.Shown.{OctetsAgree}
 
 pub searches : (E : Type 0) → SearchesAgree E
 searches E low high place n [] = refl

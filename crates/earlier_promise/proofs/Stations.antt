@@ -1,5 +1,5 @@
 -- Of the station: today's words give the earlier ones. Assumes nothing.
-use Rattle.std.proofs.Common.{◌≡◌, ℕ, Bool, true, false, List, [], ◌∷◌, length, Some, None, Option, is_some, slice_index_or, sym, refl, ap, ◌∙◌}
+use Rattle.std.proofs.Common.{◌≡◌, ℕ, Bool, List, [], ◌∷◌, Some, None, Option, is_some, slice_index_or, refl, ap, ◌∙◌}
 use Rattle.std.specs.Option.{option_map}
 use Rattle.access.specs.declared.Direction.TheVariants.{Read, Write}
 use Rattle.channel.specs.declared.facts.Refusal.{Refusal}
@@ -17,7 +17,7 @@ use Rattle.rules.specs.Account.{Account, told, accesses, read_outcome, write_out
 use Rattle.rules.specs.Promise.{Every, turned_away}
 use Rattle.rules.specs.Promise as today
 use Rattle.earlier_promise.specs.Channel as channel
-use Rattle.earlier_promise.specs.Station.{WholeIfAny, failed, RefusedIn, RefusedAt, RefusedRightly, Answered, EachAnswered, Promise}
+use Rattle.earlier_promise.specs.Station.{WholeIfAny, failed, RefusedIn, RefusedAt, RefusedRightly, EachAnswered, Promise}
 use Rattle.earlier_promise.proofs.Channels.{whole, reasons}
 
 pub each : {X : Type 0} → (P Q : X → Type 0) → ((x : X) → P x → Q x) → (xs : List X) → Every P xs → Every Q xs

@@ -16,6 +16,7 @@ pub fn still_promised()
 {}
 
 // Whatever the entries are, the search that was written out finds what the library's finds.
+#[tactic(auto, using(crate::proofs::Small::searches))]
 pub fn searches_agree<E>()
     ensures { SearchesAgree E }
 {}

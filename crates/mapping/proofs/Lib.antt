@@ -1,3 +1,4 @@
+pub mod Arrays
 pub mod Landed
 pub mod Masks
 pub mod Ranges

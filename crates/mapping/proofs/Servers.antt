@@ -2,6 +2,7 @@
 use Rattle.std.proofs.Common.{◌≡◌, ℕ, zero, suc, ◌+◌, ◌-◌, ◌<◌, Bool, true, false, cond, not, ◌&&◌, ◌||◌, List, [], ◌∷◌, ◌++◌, length, get_or, take, Some, sym, refl, ap, ◌∙◌, subst, ⊎_elim, le_of_suc-le-suc, not-suc-le-zero, arith}
 use lib.Bits.{bit_and, and_le_l, and_le_r}
 use Rattle.std.proofs.lemmas.List.{take_more}
+use Rattle.std.proofs.Math.Bool.{or-false}
 use Rattle.std.proofs.lemmas.Bool.{cases_Bool, and_right}
 use Rattle.std.proofs.lemmas.Bool.Decides.{nat_tests}
 use Rattle.std.specs.List.{position_from}
@@ -46,17 +47,13 @@ module _ {X : Type 0} (low high : X → ℕ) (b : ℕ) where
       ⊎_elim (λ t. (λ k. is (n + suc m) (cond (t k) (Some n) (position_from (covers low high b) (n + 1) xs))) ∙ grind (arith, nat_tests) ∙ sym (and_right (holds_at p xs m) (not (p x || some p (take m xs))) (ap (λ z. not (z || some p (take m xs))) t)))
       (λ f. (λ k. is (place k) (cond (f k) (Some n) (position_from (covers low high b) (n + 1) xs))) ∙ found-lowest xs (n + 1) m ∙ sym (ap (λ z. holds_at p xs m && not (z || some p (take m xs))) f)) (cases_Bool (p x))
 
-alone : (b : Bool) → not (b || false) ≡ not b
-alone true = refl
-alone false = refl
-
 beside : (a s t b : Bool) → not t ≡ (not s && not b) → not (a || t) ≡ (not (a || s) && not b)
 beside true s t b e = refl
 beside false s t b e = e
 
 module _ {X : Type 0} where
   some-push : (p : X → Bool) (xs : List X) (x : X) → not (some p (xs ++ x ∷ [])) ≡ (not (some p xs) && not (p x))
-  some-push p [] x = alone (p x)
+  some-push p [] x = ap not (or-false (p x))
   some-push p (y ∷ xs) x = beside (p y) (some p xs) (some p (xs ++ x ∷ [])) (p x) (some-push p xs x)
 
   pub holds_read : (p : X → Bool) (xs : List X) (n : ℕ) (x : X) → n < length xs → holds_at p xs n ≡ p (get_or xs n x)

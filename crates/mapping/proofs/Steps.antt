@@ -1,8 +1,9 @@
 -- The accesses of a logical octet, entity by entity.
-use Rattle.std.proofs.Common.{◌≡◌, ℕ, zero, suc, ◌+◌, ◌-◌, ◌*◌, ◌/◌, ◌<◌, ◌≤◌, Bool, true, false, cond, ◌&&◌, eqb, leb, List, [], ◌++◌, length, get_or, take, drop, Option, sym, refl, ap, ◌∙◌, subst, ⊎_elim, append_assoc, append-nil, zero-add, arith, length-drop}
+use Rattle.std.proofs.Common.{◌≡◌, ℕ, zero, suc, ◌+◌, ◌-◌, ◌*◌, ◌/◌, ◌<◌, ◌≤◌, Bool, true, false, cond, ◌&&◌, eqb, leb, List, [], ◌++◌, length, get_or, take, drop, None, Option, sym, refl, ap, ◌∙◌, subst, ⊎_elim, append_assoc, append-nil, zero-add, arith, length-drop}
 use lib.Bits.{bit_and, and_zero_l, and_zero_r, and_mask}
 use Rattle.std.specs.List.{AllWithin}
 use Rattle.std.proofs.lemmas.List.{at_drop_more, at_drop_all, get_or-drop, take_rest}
+use Rattle.std.proofs.Math.Seq.{drop-drop}
 use Rattle.std.proofs.lemmas.Bool.{cases_Bool, cases_lt, and_left, and_parts}
 use Rattle.std.proofs.lemmas.Bool.Decides.{nat_tests}
 use Rattle.access.specs.declared.Direction.{Direction}
@@ -16,10 +17,6 @@ use Rattle.mapping.specs.Registers.{no_entity}
 use Rattle.mapping.specs.Mapping.{first_bit, last_bit, works, bits_covered, first_octet, last_octet, is, lands, turn_of, landing_in, access_for, landed_from, served_bits, mapped_from, mapped_accesses}
 use Rattle.mapping.proofs.Ranges.{first_covered, last_covered, server-is}
 use Rattle.mapping.proofs.Servers.{lowest, found-lowest, Free, free-fits, free-none, free_more, share-is}
-
--- what a search among the entities from one on found
-pub searched : (es : List Entity) (n a : ℕ) (r : Option ℕ) → Lowest first_octet last_octet a (take (length es - n) (drop n es)) r → Lowest first_octet last_octet a (drop n es) r
-searched es n a r law = subst (λ xs. Lowest first_octet last_octet a xs r) (take_rest es n) law
 
 -- what covering a bit tells of an entity
 module _ (d : Direction) (e : Entity) (b : ℕ) where
@@ -44,10 +41,6 @@ lies_in d e a i h t = let known = sym (covering d e (8 * a + i)) ∙ t in (grind
 
 elsewhere : (d : Direction) (e : Entity) (a i : ℕ) → i < 8 → (Covers first_octet last_octet a e → ⊥) → covers (first_covered d) (last_covered d) (8 * a + i) e ≡ false
 elsewhere d e a i h out = ⊎_elim (λ t. absurd (out (lies_in d e a i h t))) (λ f. f) (cases_Bool (covers (first_covered d) (last_covered d) (8 * a + i) e))
-
--- an entity that lies in an octet has it among its own
-within : (e : Entity) (a : ℕ) → Covers first_octet last_octet a e → a < e.logical + e.length
-within e a (l, h) = grind (arith, nat_tests)
 
 -- no bits make no access
 landing-none : (e : Entity) (a p : ℕ) → 0 ≡ landing_in e a 0 p
@@ -129,10 +122,20 @@ module _ (es : List Entity) (d : Direction) (a : ℕ) where
   told-by : (e : Entity) (y : ℕ) (r : BitRange) → y ≡ octet_of (λ i. leb r.first (8 * a + i) && leb (8 * a + i) r.last) → r ≡ bits_covered d e → y ≡ octet_of (λ i. takes i e)
   told-by e y r y-is r-is = y-is ∙ ap (λ r. octet_of (λ i. leb r.first (8 * a + i) && leb (8 * a + i) r.last)) r-is
 
-  -- one turn of the search: entity n + k lies in the octet and covers the bits of y there, and the k before it lie elsewhere
-  module _ (n k free y : ℕ) (r : BitRange) (y-is : y ≡ octet_of (λ i. leb r.first (8 * a + i) && leb (8 * a + i) r.last)) (r-is : r ≡ bits_covered d (get_or es (n + k) no_entity)) where
+  -- of the entities `rest` is left, of the bits `free`, and xs are the accesses so far
+  pub record Reached (rest : List Entity) (free : ℕ) (xs : List Access) : Type 0 where
+    pub past : ℕ
+    pub begins : rest ≡ drop past es
+    pub walked : Walked past free xs
+    pub few : length xs ≤ 2 * past
+
+  pub reached_none : Reached es 255 []
+  reached_none = record { past = 0; begins = refl; walked = walked_none; few = omega arith }
+
+  -- one turn of the search: entity k of the rest lies in the octet and covers the bits of y there, and the k before it lie elsewhere
+  module _ (rest : List Entity) (k free y : ℕ) (r : BitRange) (y-is : y ≡ octet_of (λ i. leb r.first (8 * a + i) && leb (8 * a + i) r.last)) (r-is : r ≡ bits_covered d (get_or rest k no_entity)) where
     abbrev entity : Entity
-    entity = get_or es (n + k) no_entity
+    entity = get_or rest k no_entity
 
     told : y ≡ octet_of (λ i. takes i entity)
     told = told-by entity y r y-is r-is
@@ -140,11 +143,28 @@ module _ (es : List Entity) (d : Direction) (a : ℕ) where
     pub started : (i : ℕ) → i < 8 → bit_at (bit_and y free) i ≡ true → first_bit entity ≤ 8 * a + i
     started i h t = covered-from d entity (8 * a + i) (sym (reads y (λ i. takes i entity) told i h) ∙ (and_parts (bit_at y i) (bit_at free i) (sym (bit-and y free i) ∙ t)).0)
 
-    pub turned : (xs ys : List Access) → k < length (drop n es) → AllWithin (λ e. Covers first_octet last_octet a e → ⊥) (drop n es) 0 k → y < 256 → ys ≡ xs ++ landed_from entity a (bit_and y free) → Walked n free xs → Walked (n + (k + 1)) (bit_and free (255 - y)) ys
-    turned xs ys h out small ys-is w =
-        let long = length-drop n es in
+    pub reached_more : (left : List Entity) (xs ys : List Access) → left ≡ take (length rest - (k + 1)) (drop (k + 1) rest) → k < length rest → AllWithin (λ e. Covers first_octet last_octet a e → ⊥) rest 0 k → y < 256 → ys ≡ xs ++ landed_from entity a (bit_and y free) → length ys ≤ length xs + 2 → Reached rest free xs → Reached left (bit_and free (255 - y)) ys
+    reached_more left xs ys left-is h out small ys-is more w =
+        let n = w.past in
+        let few = w.few in
+        let long : length rest ≡ length es - n = ap length w.begins ∙ length-drop n es in
+        let same : entity ≡ get_or es (n + k) no_entity = ap (λ es. get_or es k no_entity) w.begins ∙ get_or-drop n es k no_entity in
+        let before = walked_by k n free xs (omega arith) (subst (λ es. AllWithin (λ e. Covers first_octet last_octet a e → ⊥) es 0 k) w.begins out) w.walked in
         let place : n + k + 1 ≡ n + (k + 1) = omega arith in
-        subst (λ m. Walked m (bit_and free (255 - y)) ys) place (walked_more (n + k) free y no_entity xs ys (omega arith) small told ys-is (walked_by k n free xs (omega arith) out w))
+        record {
+          past = n + (k + 1);
+          begins = left-is ∙ take_rest rest (k + 1) ∙ ap (drop (k + 1)) w.begins ∙ drop-drop (k + 1) n es;
+          walked =
+              subst (λ m. Walked m (bit_and free (255 - y)) ys) place
+              (walked_more (n + k) free y no_entity xs ys (omega arith) small (told ∙ ap (λ e. octet_of (λ i. takes i e)) same) (ys-is ∙ ap (λ e. xs ++ landed_from e a (bit_and y free)) same) before);
+          few = omega arith;
+        }
 
-  pub found_within : (n k : ℕ) → ((e : Entity) → Covers first_octet last_octet a (get_or (drop n es) k e)) → a < (get_or es (n + k) no_entity).logical + (get_or es (n + k) no_entity).length
-  found_within n k at = within (get_or es (n + k) no_entity) a (subst (λ e. Covers first_octet last_octet a e) (get_or-drop n es k no_entity) (at no_entity))
+  -- no entity of the rest lies in the octet
+  pub reached_all : (rest : List Entity) (free : ℕ) (xs : List Access) (r : Option ℕ) → Lowest first_octet last_octet a rest r → r ≡ None → Reached rest free xs → xs ≡ mapped_accesses es d a
+  reached_all rest free xs r law none w =
+      walked_all w.past free xs (subst (λ es. AllWithin (λ e. Covers first_octet last_octet a e → ⊥) es 0 (length es)) w.begins (subst (Lowest first_octet last_octet a rest) none law)) w.walked
+
+  -- no bit is left
+  pub reached-full : (rest : List Entity) (xs : List Access) → Reached rest 0 xs → xs ≡ mapped_accesses es d a
+  reached-full rest xs w = walked-full (length es) w.past xs (omega arith) w.walked

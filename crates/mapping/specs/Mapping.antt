@@ -1,5 +1,5 @@
 -- Which accesses one logical octet makes. Logical bit b is bit b % 8 of the logical octet b / 8, and physical bits count likewise. Assumes nothing.
-use Rattle.std.specs.Prelude.{ℕ, ◌+◌, ◌-◌, ◌*◌, ◌/◌, ◌%◌, ◌^◌, Bool, false, cond, ◌&&◌, List, [], ◌∷◌, ◌++◌, map, take, Some, None, Option, ◌==◌, nat_lt}
+use Rattle.std.specs.Prelude.{ℕ, ◌+◌, ◌-◌, ◌*◌, ◌/◌, ◌%◌, ◌^◌, Bool, false, cond, ◌&&◌, List, [], ◌∷◌, ◌++◌, map, Some, None, Option, ◌==◌, nat_lt}
 use Rattle.access.specs.declared.Direction.{Direction}
 use Rattle.access.specs.declared.Direction.TheVariants.{Read, Write}
 use Rattle.std.specs.List.{position_from}
@@ -9,7 +9,6 @@ use Rattle.bits.specs.Shares.{share_of}
 use Rattle.mapping.specs.declared.entity.Entity.{Entity}
 use Rattle.mapping.specs.declared.serving.BitRange.{BitRange}
 use Rattle.mapping.specs.declared.mapped.Access.{Access}
-use Rattle.mapping.specs.declared.mapped.Accesses.{Accesses}
 
 -- an entity covers from its start bit to the stop bit of its last octet, and nothing from 2^32 octets on
 abbrev pub first_bit : Entity → ℕ
@@ -80,7 +79,3 @@ first_octet e = cond (e.length == 0) 1 e.logical
 
 abbrev pub last_octet : Entity → ℕ
 last_octet e = cond (e.length == 0) 0 (e.logical + e.length - 1)
-
--- the list that a value of `Accesses` holds
-abbrev pub listed : Accesses → List Access
-listed x = take x.count x.list

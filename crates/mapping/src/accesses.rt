@@ -1,8 +1,9 @@
 // The accesses that one logical octet makes: by entity, then by physical octet.
-ghost use Rattle.std.specs.Prelude.{◌≡◌, ℕ, ◌+◌, ◌*◌, ◌^◌, ◌<◌, ◌≤◌, true, [], ◌++◌, length};
+ghost use Rattle.std.specs.Prelude.{◌≡◌, ℕ, ◌+◌, ◌*◌, ◌^◌, ◌<◌, ◌≤◌, true, ◌++◌, length};
+ghost use Rattle.arrayvec.specs.ArrayVec.{array_vec_len};
 ghost use Rattle.bits.specs.Bits.{bit_at};
 ghost use Rattle.cover.specs.Lowest.{Lowest};
-ghost use Rattle.mapping.specs.Mapping.{first_bit, first_octet, last_octet, turn_of, lands, access_for, landed_from, mapped_accesses, listed};
+ghost use Rattle.mapping.specs.Mapping.{first_bit, first_octet, last_octet, turn_of, lands, access_for, landed_from, mapped_accesses};
 
 use crate::entity::Entity;
 use crate::mapped::{Access, Accesses};
@@ -10,59 +11,15 @@ use access::Direction;
 use bits::share::Share;
 use cover::{Span, lowest_covering};
 
-impl Accesses {
-    fn none() -> Accesses
-        ensures list { listed result ≡ [] }
-        ensures count { result.count ≡ 0 }
-    {
-        let unused = Access {
-            address: 0,
-            share: Share::Whole,
-        };
-        Accesses {
-            list: [unused; 16],
-            count: 0,
-        }
-    }
-
-    // The accesses, in their order.
-    pub fn as_slice(&self) -> &[Access]
-        ensures { result.now ≡ listed self.now }
-    {
-        &self.list[0..self.count]
-    }
-
-    // One access more, if there are bits for it.
-    fn push(&mut self, address: u32, bits: u8, turn: u8)
-        requires { self.old.count < 16 }
-        ensures list { listed self.new ≡ listed self.old ++ access_for address bits turn }
-        ensures count { self.new.count ≤ self.old.count + 1 }
-    {
-        if bits == 0 {
-            return;
-        }
-        let place = self.count;
-        self.list[place] = Access {
-            address,
-            share: Share::of(bits, turn),
-        };
-        self.count = place + 1;
-    }
-
-    // The accesses of those bits of the logical octet at `address`, through the entity: the lower physical octet first.
-    fn push_bits(&mut self, entity: &Entity, address: u64, bits: u8)
-        requires room { self.old.count ≤ 14 }
-        requires within { address < entity.now.logical + entity.now.length }
-        requires started { (i : ℕ) → i < 8 → bit_at bits i ≡ true → first_bit entity.now ≤ 8 * address + i }
-        ensures list { listed self.new ≡ listed self.old ++ landed_from entity.now address bits }
-        ensures count { self.new.count ≤ self.old.count + 2 }
-    {
-        let turn = entity.turn();
-        let first = entity.landing(address);
-        let octet = first / 8;
-        let front = 0xff >> (first % 8);
-        self.push(octet, bits & front, turn);
-        self.push(octet + 1, bits & !front, turn);
+// One access more, if there are bits for it.
+fn push(found: &mut Accesses, address: u32, bits: u8, turn: u8)
+    requires { array_vec_len found.old < 16 }
+    ensures list { found.new.items ≡ found.old.items ++ access_for address bits turn }
+    ensures count { array_vec_len found.new ≤ array_vec_len found.old + 1 }
+{
+    if bits != 0 {
+        let share = Share::of(bits, turn);
+        found.push(Access { address, share });
     }
 }
 
@@ -74,14 +31,30 @@ impl Entity {
         (8 + self.physical_bit % 8 - self.start_bit % 8) % 8
     }
 
+    // Adds the accesses of those bits of the logical octet at `address`: the lower physical octet first.
+    fn push_bits(&self, address: u64, bits: u8, found: &mut Accesses)
+        requires room { array_vec_len found.old ≤ 14 }
+        requires within { address < self.now.logical + self.now.length }
+        requires started { (i : ℕ) → i < 8 → bit_at bits i ≡ true → first_bit self.now ≤ 8 * address + i }
+        ensures list { found.new.items ≡ found.old.items ++ landed_from self.now address bits }
+        ensures count { array_vec_len found.new ≤ array_vec_len found.old + 2 }
+    {
+        let turn = self.turn();
+        let first = self.landing(address);
+        let octet = first / 8;
+        let front = 0xff >> (first % 8);
+        push(found, octet, bits & front, turn);
+        push(found, octet + 1, bits & !front, turn);
+    }
+
     // The physical bit where bit 0 of the logical octet at `address` lands, 0 if it comes before all of them.
     fn landing(&self, address: u64) -> u32
         requires { address < self.now.logical + self.now.length }
         ensures place { result ≡ lands self.now (8 * address) }
         ensures small { result < 2 ^ 21 }
     {
-        let place = 8 * (self.physical as u64 + address) + (self.physical_bit % 8) as u64;
-        place.saturating_sub(8 * self.logical as u64 + (self.start_bit % 8) as u64) as u32
+        let place = 8 * (u64::from(self.physical) + address) + u64::from(self.physical_bit % 8);
+        place.saturating_sub(8 * u64::from(self.logical) + u64::from(self.start_bit % 8)) as u32
     }
 }
 
@@ -95,7 +68,7 @@ impl Span for Entity {
         if self.length == 0 {
             1
         } else {
-            self.logical as u64
+            u64::from(self.logical)
         }
     }
 
@@ -103,7 +76,7 @@ impl Span for Entity {
         if self.length == 0 {
             0
         } else {
-            self.logical as u64 + self.length as u64 - 1
+            u64::from(self.logical) + u64::from(self.length) - 1
         }
     }
 }
@@ -119,20 +92,19 @@ fn lowest_in(entities: &[Entity], address: u64) -> Option<usize>
 // until every bit is served.
 fn found_among(entities: &[Entity], direction: Direction, address: u64) -> Accesses
     requires { length entities.now ≤ 8 }
-    ensures { listed result ≡ mapped_accesses entities.now direction address }
+    ensures { result.items ≡ mapped_accesses entities.now direction address }
 {
-    let mut found = Accesses::none();
+    let mut found = Accesses::new();
     let mut free = 0xff;
-    let mut next = 0;
-    while free != 0 {
-        let Some(step) = lowest_in(&entities[next..], address) else {
-            return found;
-        };
-        let entity = entities[next + step];
+    let mut rest = entities;
+    while free != 0
+        && let Some(index) = lowest_in(rest, address)
+    {
+        let entity = &rest[index];
         let covered = entity.bits_covered(direction).in_octet(address);
-        found.push_bits(&entity, address, covered & free);
+        entity.push_bits(address, covered & free, &mut found);
         free &= !covered;
-        next += step + 1;
+        rest = &rest[index + 1..];
     }
     found
 }
@@ -140,7 +112,7 @@ fn found_among(entities: &[Entity], direction: Direction, address: u64) -> Acces
 // The accesses of the logical octet at `address` in a direction: one for each entity that serves bits of it and each physical octet where
 // these land, by entity, then by address.
 pub fn accesses_at(entities: &[Entity; 8], direction: Direction, address: u64) -> Accesses
-    ensures { listed result ≡ mapped_accesses entities.now direction address }
+    ensures { result.items ≡ mapped_accesses entities.now direction address }
 {
     found_among(entities, direction, address)
 }

@@ -2,12 +2,12 @@
 ghost use Rattle.std.specs.Prelude.{◌≡◌};
 ghost use Rattle.mapping.specs.Registers.{no_entity, entity_octet, with_entity_octet, EntitiesReadBack};
 
-use access::field::{octet16, octet32, with_octet16, with_octet32};
+use access::field::Field;
 
 // Logical bits that stand for physical ones: from the start bit of the logical start on, over `length` logical octets, to the stop bit of the
 // last; they land from the physical bit of the physical start on. It serves mapped reads, mapped writes or both, while it is active.
 // Of the three bit numbers only the low three bits count.
-#[derive(Clone, Copy, PartialEq, Eq, Debug)]
+#[derive(Clone, Copy, PartialEq, Eq, Debug, Default)]
 pub struct Entity {
     pub logical: u32,
     pub length: u16,
@@ -25,17 +25,7 @@ impl Entity {
     pub fn new() -> Entity
         ensures { result ≡ no_entity }
     {
-        Entity {
-            logical: 0,
-            length: 0,
-            start_bit: 0,
-            stop_bit: 0,
-            physical: 0,
-            physical_bit: 0,
-            reads: false,
-            writes: false,
-            active: false,
-        }
+        Entity::default()
     }
 
     // Register octet `index`: 0 to 3 logical start, 4 and 5 length, 6 start bit, 7 stop bit, 8 and 9 physical start, 10 physical bit,
@@ -44,14 +34,14 @@ impl Entity {
         ensures { result ≡ entity_octet self.now index }
     {
         match index {
-            0..=3 => octet32(self.logical, index),
-            4..=5 => octet16(self.length, index - 4),
+            0..=3 => self.logical.octet(index),
+            4..=5 => self.length.octet(index - 4),
             6 => self.start_bit % 8,
             7 => self.stop_bit % 8,
-            8..=9 => octet16(self.physical, index - 8),
+            8..=9 => self.physical.octet(index - 8),
             10 => self.physical_bit % 8,
-            11 => self.reads as u8 + 2 * self.writes as u8,
-            12 => self.active as u8,
+            11 => u8::from(self.reads) + 2 * u8::from(self.writes),
+            12 => u8::from(self.active),
             _ => 0,
         }
     }
@@ -62,11 +52,11 @@ impl Entity {
     {
         let mut entity = self;
         match index {
-            0..=3 => entity.logical = with_octet32(self.logical, index, octet),
-            4..=5 => entity.length = with_octet16(self.length, index - 4, octet),
+            0..=3 => entity.logical = self.logical.with_octet(index, octet),
+            4..=5 => entity.length = self.length.with_octet(index - 4, octet),
             6 => entity.start_bit = octet % 8,
             7 => entity.stop_bit = octet % 8,
-            8..=9 => entity.physical = with_octet16(self.physical, index - 8, octet),
+            8..=9 => entity.physical = self.physical.with_octet(index - 8, octet),
             10 => entity.physical_bit = octet % 8,
             11 => {
                 entity.reads = octet % 2 == 1;
@@ -80,6 +70,7 @@ impl Entity {
 }
 
 // What is written to a register octet is read back from it, masked to the bits that are kept, and every other octet stays.
+#[tactic(auto, using(crate::proofs::Registers::entities_read_back))]
 pub fn entities_read_back()
     ensures { EntitiesReadBack }
 {}

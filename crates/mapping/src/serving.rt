@@ -71,11 +71,11 @@ impl Entity {
         if !(self.active && self.allows(direction) && self.length > 0) {
             return BitRange { first: 1, last: 0 };
         }
-        let first = self.logical as u64;
-        let last = 8 * (first + self.length as u64 - 1) + (self.stop_bit % 8) as u64;
+        let first = u64::from(self.logical);
+        let last = 8 * (first + u64::from(self.length) - 1) + u64::from(self.stop_bit % 8);
         BitRange {
-            first: 8 * first + (self.start_bit % 8) as u64,
-            last: if last < BITS { last } else { BITS - 1 },
+            first: 8 * first + u64::from(self.start_bit % 8),
+            last: last.min(BITS - 1),
         }
     }
 }
@@ -84,11 +84,7 @@ impl Entity {
 fn ranges(entities: &[Entity; 8], direction: Direction) -> [BitRange; 8]
     ensures { result ≡ map (bits_covered direction) entities.now }
 {
-    let mut ranges = [BitRange { first: 1, last: 0 }; 8];
-    for i in 0..8 {
-        ranges[i] = entities[i].bits_covered(direction);
-    }
-    ranges
+    entities.map(|entity| entity.bits_covered(direction))
 }
 
 // The entity that serves a logical bit: the lowest active one of the direction that covers it.

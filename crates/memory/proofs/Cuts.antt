@@ -1,39 +1,35 @@
 -- A list of which only the first n elements count. Assumes nothing.
-use Rattle.std.proofs.Common.{◌≡◌, ℕ, ◌<◌, ◌≤◌, min, List, length, get_or, set, Ok, Err, sym, ap, ◌∙◌, arith}
-use Rattle.std.proofs.lemmas.List.{length-take, length-set, get_or-take, get_or-set_same, set_past, same_lists, places}
+use Rattle.std.proofs.Common.{◌≡◌, ℕ, ◌<◌, min, List, length, get_or, set, Ok, sym, ap, ◌∙◌, arith}
+use Rattle.std.proofs.lemmas.List.{length-take, length-set, get_or-take, get_or-set_same, same_lists, places}
 use Rattle.std.proofs.lemmas.Bool.{cases_eq}
-use Rattle.memory.specs.Octets.{outside, read_of, write_of}
+use Rattle.memory.specs.Octets.{read_of}
 use Rattle.memory.specs.Cuts.{counted}
-use Rattle.memory.proofs.Answers.{read-inside, read-outside, write-inside, write-outside}
+use Rattle.memory.proofs.Answers.{read_inside}
 
-module _ (n : ℕ) (xs : List ℕ) (i : ℕ) where
-  module _ (counts : i < min (length xs) n) where
-    pub counted-in : i < length (counted n xs)
-    counted-in = simp length-take (omega arith)
+module _ (n : ℕ) (xs : List ℕ) where
+  pub length_counted : length (counted n xs) ≡ min (length xs) n
+  length_counted = simp length-take (omega arith)
 
-    -- an element that counts, read or replaced before or after the cut
+  -- an element that counts, read or replaced before or after the cut
+  module _ (i : ℕ) (counts : i < length (counted n xs)) where
     pub counted-get : get_or (counted n xs) i 0 ≡ get_or xs i 0
-    counted-get = let below : i < n = omega arith in get_or-take n xs i 0 below
+    counted-get = let below : i < n = omega (arith, length_counted) in get_or-take n xs i 0 below
 
-    pub counted-set : (x : ℕ) → counted n (set xs i x) ≡ set (counted n xs) i x
-    counted-set x =
-        same_lists _ _ (simp (length-take, length-set) (omega arith)) (λ k d p. grind (arith, places, get_or-set_same, cases_eq k i))
+    pub counted_read : Ok (get_or xs i 0) ≡ read_of (counted n xs) i
+    counted_read = ap Ok (sym counted-get) ∙ read_inside (counted n xs) i counts
 
-    pub counted-read : read_of (counted n xs) i ≡ Ok (get_or xs i 0)
-    counted-read = read-inside (counted n xs) i counted-in ∙ ap Ok counted-get
+    pub counted_set : (x : ℕ) → counted n (set xs i x) ≡ set (counted n xs) i x
+    counted_set x =
+        same_lists _ _ (simp (length-take, length-set) (omega arith))
+        (λ k d p. let below : i < n = omega (arith, length_counted) in grind (arith, places, get_or-set_same, cases_eq k i))
 
-    pub counted-written : write_of (counted n xs) i ≡ Ok tt
-    counted-written = write-inside (counted n xs) i counted-in
+-- the same of the octets of a row
+module _ (xs : List ℕ) where
+  pub length_row : length (counted 61440 xs) ≡ min (length xs) 61440
+  length_row = length_counted 61440 xs
 
-  module _ (beyond : min (length xs) n ≤ i) where
-    pub past : length (counted n xs) ≤ i
-    past = simp length-take (omega arith)
+  pub row_read : (i : ℕ) → i < length (counted 61440 xs) → read_of (counted 61440 xs) i ≡ Ok (get_or xs i 0)
+  row_read i counts = sym (counted_read 61440 xs i counts)
 
-    pub uncounted-read : read_of (counted n xs) i ≡ Err (outside i)
-    uncounted-read = read-outside (counted n xs) i past
-
-    pub uncounted-written : write_of (counted n xs) i ≡ Err (outside i)
-    uncounted-written = write-outside (counted n xs) i past
-
-    pub uncounted-set : (x : ℕ) → counted n xs ≡ set (counted n xs) i x
-    uncounted-set x = sym (set_past (counted n xs) i x past)
+  pub row_set : (i x : ℕ) → i < length (counted 61440 xs) → set (counted 61440 xs) i x ≡ counted 61440 (set xs i x)
+  row_set i x counts = sym (counted_set 61440 xs i counts x)

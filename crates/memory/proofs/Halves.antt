@@ -1,11 +1,10 @@
 -- Reading and replacing a half of a word in the list of halves. Assumes nothing.
 use Rattle.std.proofs.Common.{◌≡◌, ℕ, zero, suc, ◌+◌, ◌*◌, ◌/◌, ◌%◌, ◌<◌, ◌≤◌, min, List, [], ◌∷◌, length, get_or, set, Ok, Err, sym, refl, ap, ◌∙◌, arith}
-use Rattle.std.proofs.lemmas.List.{set_past}
-use Rattle.memory.specs.Octets.{outside, read_of, write_of}
+use Rattle.memory.specs.Octets.{read_of}
 use Rattle.memory.specs.Halves.{halves, half_at, with_half, length-halves}
 use Rattle.memory.specs.Cuts.{counted}
-use Rattle.memory.proofs.Cuts.{counted-in, counted-get, counted-set, past}
-use Rattle.memory.proofs.Answers.{read-inside, read-outside, write-inside, write-outside}
+use Rattle.memory.proofs.Cuts.{length_counted, counted-get, counted_set}
+use Rattle.memory.proofs.Answers.{read_inside}
 
 -- two places further is one word further
 word_more : (i : ℕ) → suc (suc i) / 2 ≡ suc (i / 2)
@@ -32,36 +31,23 @@ write-half (w ∷ ws) (suc zero) v h =
     rw (low, high)
 write-half (w ∷ ws) (suc (suc i)) v h = rw (word_more, half-more) (ap (λ l. w % 256 ∷ (w / 256 ∷ l)) (write-half ws i v h))
 
--- what the memory of the halves answers, by the word at a place, of words of which only the first n count
-module _ (n : ℕ) (ws : List ℕ) (i : ℕ) where
-  module _ (counts : i / 2 < min (length ws) n) where
-    within : i < length (halves (counted n ws))
-    within = omega (arith, length-halves (counted n ws), counted-in n ws (i / 2) counts)
+-- what the memory of the halves answers, by the word at a place
+module _ (ws : List ℕ) where
+  pub length_words : length (halves (counted 30720 ws)) ≡ 2 * min (length ws) 30720
+  length_words = omega (arith, length-halves (counted 30720 ws), length_counted 30720 ws)
 
-    same_word : get_or (counted n ws) (i / 2) 0 ≡ get_or ws (i / 2) 0
-    same_word = counted-get n ws (i / 2) counts
+  module _ (i : ℕ) (counts : i < length (halves (counted 30720 ws))) where
+    within : i / 2 < length (counted 30720 ws)
+    within = omega (arith, length-halves (counted 30720 ws))
 
-    pub word_read : read_of (halves (counted n ws)) i ≡ Ok (half_at (get_or ws (i / 2) 0) i)
+    same_word : get_or (counted 30720 ws) (i / 2) 0 ≡ get_or ws (i / 2) 0
+    same_word = counted-get 30720 ws (i / 2) within
+
+    pub word_read : read_of (halves (counted 30720 ws)) i ≡ Ok (half_at (get_or ws (i / 2) 0) i)
     word_read =
-        read-inside (halves (counted n ws)) i within ∙ ap Ok (read-half (counted n ws) i ∙ ap (λ w. half_at w i) same_word)
+        sym (read_inside (halves (counted 30720 ws)) i counts) ∙ ap Ok (read-half (counted 30720 ws) i ∙ ap (λ w. half_at w i) same_word)
 
-    pub word-written : write_of (halves (counted n ws)) i ≡ Ok tt
-    word-written = write-inside (halves (counted n ws)) i within
-
-    pub word_set : (w v : ℕ) → v < 256 → w ≡ with_half (get_or ws (i / 2) 0) i v → halves (counted n (set ws (i / 2) w)) ≡ set (halves (counted n ws)) i v
-    word_set w v h is =
-        let same : w ≡ with_half (get_or (counted n ws) (i / 2) 0) i v = is ∙ ap (λ x. with_half x i v) (sym same_word) in
-        ap halves (counted-set n ws (i / 2) counts w ∙ ap (set (counted n ws) (i / 2)) same) ∙ write-half (counted n ws) i v h
-
-  module _ (beyond : min (length ws) n ≤ i / 2) where
-    none_left : length (halves (counted n ws)) ≤ i
-    none_left = omega (arith, length-halves (counted n ws), past n ws (i / 2) beyond)
-
-    pub no-word-read : read_of (halves (counted n ws)) i ≡ Err (outside i)
-    no-word-read = read-outside (halves (counted n ws)) i none_left
-
-    pub no-word-written : write_of (halves (counted n ws)) i ≡ Err (outside i)
-    no-word-written = write-outside (halves (counted n ws)) i none_left
-
-    pub no-word-set : (v : ℕ) → halves (counted n ws) ≡ set (halves (counted n ws)) i v
-    no-word-set v = sym (set_past (halves (counted n ws)) i v none_left)
+    pub word_set : (v : ℕ) → v < 256 → set (halves (counted 30720 ws)) i v ≡ halves (counted 30720 (set ws (i / 2) (with_half (get_or ws (i / 2) 0) i v)))
+    word_set v h =
+        sym (write-half (counted 30720 ws) i v h)
+        ∙ ap (λ w. halves (set (counted 30720 ws) (i / 2) (with_half w i v))) same_word ∙ ap halves (sym (counted_set 30720 ws (i / 2) within (with_half (get_or ws (i / 2) 0) i v)))

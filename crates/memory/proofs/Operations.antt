@@ -1,6 +1,6 @@
 -- Reads after any list of operations. Assumes nothing.
-use Rattle.std.proofs.Common.{◌≡◌, ℕ, ◌+◌, ◌<◌, ◌≤◌, Bool, true, false, cond, eqb, ltb, List, [], ◌∷◌, length, get_or, drop, set, Ok, Err, sym, refl, ap, ◌∙◌, arith}
-use Rattle.std.proofs.lemmas.List.{length-set, get_or-set_same, get_or-set_other, at_drop_more, at_drop_all}
+use Rattle.std.proofs.Common.{◌≡◌, ℕ, ◌<◌, ◌≤◌, Bool, true, false, cond, eqb, ltb, List, [], ◌∷◌, length, get_or, drop, set, Ok, Err, sym, refl, ap, ◌∙◌, arith}
+use Rattle.std.proofs.lemmas.List.{length-set, get_or-set_same, get_or-set_other, at_drop_all}
 use Rattle.std.proofs.lemmas.Bool.{cases_eq, ltb-true}
 use Rattle.memory.specs.declared.operation.Operation.{Operation}
 use Rattle.memory.specs.declared.operation.Operation.TheVariants.{Read, Write}
@@ -23,10 +23,7 @@ last_stored xs (Write j v ∷ os) i h =
     let k : i < length (set xs j v) = simp length-set h in
     last_stored (set xs j v) os i k ∙ ap (λ x. latest_stored x os i) (written xs j v i h)
 
--- one operation more of a list, and its end
-pub one_more : (xs ys : List ℕ) (os : List Operation) (i : ℕ) (d : Operation) → i < length os → ys ≡ performed xs (get_or os i d) → performed_all ys (drop (i + 1) os) ≡ performed_all xs (drop i os)
-one_more xs ys os i d h is = ap (λ zs. performed_all zs (drop (i + 1) os)) is ∙ sym (at_drop_more (performed_all xs) os i d h)
-
+-- the end of a list of operations
 pub all_done : (xs : List ℕ) (os : List Operation) (i : ℕ) → length os ≤ i → performed_all xs (drop i os) ≡ xs
 all_done xs os i h = at_drop_all (performed_all xs) os i h
 

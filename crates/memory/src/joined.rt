@@ -4,14 +4,13 @@ ghost use Rattle.memory.specs.Cuts.{joined, joined-bounded};
 ghost use Rattle.memory.specs.Parts.{Lies};
 
 use crate::fault::MemoryFault;
-use crate::{LIMIT, Memory};
+use crate::{LIMIT, Memory, within};
 
-// Where a place of the whole lies: at a place of the first or of the second memory, or beyond both.
+// A place of the first or of the second memory.
 #[derive(Clone, Copy)]
-pub enum Part {
+enum Part {
     First(u32),
     Second(u32),
-    Beyond,
 }
 
 // What both hold beyond 61,440 octets is not part of the memory.
@@ -29,19 +28,17 @@ impl<F: Memory, S: Memory> Joined<F, S> {
         Joined { first, second }
     }
 
-    fn part(&self, place: u32) -> Part
+    // Where a place of the whole lies.
+    #[tactic(auto, using(crate::proofs::Joins::length_joined))]
+    fn part(&self, place: u32) -> Result<Part, MemoryFault>
         ensures { Lies (length (F.octets self.now.first)) (length (S.octets self.now.second)) place result }
     {
+        within(place, self.size())?;
         let first = self.first.size() as u32;
-        let second = self.second.size() as u32;
-        if place as usize >= LIMIT {
-            Part::Beyond
-        } else if place < first {
-            Part::First(place)
-        } else if place - first < second {
-            Part::Second(place - first)
+        if place < first {
+            Ok(Part::First(place))
         } else {
-            Part::Beyond
+            Ok(Part::Second(place - first))
         }
     }
 }
@@ -51,23 +48,24 @@ impl<F: Memory, S: Memory> Memory for Joined<F, S> {
 
     ghost bounded = { λ m. joined-bounded (F.octets m.first) (S.octets m.second) };
 
+    #[tactic(auto, using(crate::proofs::Joins::length_joined))]
     fn size(&self) -> usize {
         (self.first.size() + self.second.size()).min(LIMIT)
     }
 
+    #[tactic(auto, using(crate::proofs::Joins::read_first, crate::proofs::Joins::read_second, crate::proofs::Joins::length_joined, crate::proofs::Answers::read_refused))]
     fn read(&mut self, place: u32) -> Result<u8, MemoryFault> {
-        match self.part(place) {
+        match self.part(place)? {
             Part::First(at) => self.first.read(at),
             Part::Second(at) => self.second.read(at),
-            Part::Beyond => Err(MemoryFault::at(place)),
         }
     }
 
+    #[tactic(auto, using(crate::proofs::Joins::write_first, crate::proofs::Joins::write_second, crate::proofs::Joins::set_first, crate::proofs::Joins::set_second, crate::proofs::Joins::length_joined, crate::proofs::Answers::write_refused, crate::proofs::Answers::refused_set))]
     fn write(&mut self, place: u32, octet: u8) -> Result<(), MemoryFault> {
-        match self.part(place) {
+        match self.part(place)? {
             Part::First(at) => self.first.write(at, octet),
             Part::Second(at) => self.second.write(at, octet),
-            Part::Beyond => Err(MemoryFault::at(place)),
         }
     }
 }

@@ -2,7 +2,7 @@
 #![tactic(auto)]
 
 ghost use Rattle.std.specs.Prelude.{◌≡◌, ℕ, ◌≤◌, List, length, slice_set};
-ghost use Rattle.memory.specs.Octets.{read_of, write_of};
+ghost use Rattle.memory.specs.Octets.{Within, read_of, write_of};
 
 pub mod fault;
 pub mod joined;
@@ -14,6 +14,17 @@ use fault::MemoryFault;
 
 // The most octets that a memory has.
 pub const LIMIT: usize = 61_440;
+
+// Refuses a place that a memory of `size` octets does not have.
+fn within(place: u32, size: usize) -> Result<(), MemoryFault>
+    ensures { Within size place result }
+{
+    if (place as usize) < size {
+        Ok(())
+    } else {
+        Err(MemoryFault::at(place))
+    }
+}
 
 // A memory means a list of octets. Its length, the size, never changes.
 pub trait Memory {

@@ -1,9 +1,9 @@
 // Octets in a row.
-ghost use Rattle.std.specs.Prelude.{◌≡◌};
+ghost use Rattle.std.specs.Prelude.{◌≡◌, ◌≤◌, length};
 ghost use Rattle.memory.specs.Cuts.{counted, counted-bounded};
 
 use crate::fault::MemoryFault;
-use crate::{LIMIT, Memory};
+use crate::{LIMIT, Memory, within};
 
 // A memory over a lent slice of octets. What the slice holds beyond 61,440 octets is not part of it.
 #[derive(Drop)]
@@ -24,24 +24,24 @@ impl Memory for Row<'_> {
 
     ghost bounded = { λ m. counted-bounded 61440 m.cells.now };
 
-    fn size(&self) -> usize {
+    #[tactic(auto, using(crate::proofs::Cuts::length_row))]
+    fn size(&self) -> usize
+        ensures value { result ≡ length (counted 61440 self.now.cells.now) }
+        ensures within { result ≤ length self.now.cells.now }
+    {
         self.cells.len().min(LIMIT)
     }
 
+    #[tactic(auto, using(crate::proofs::Cuts::row_read, crate::proofs::Answers::read_refused))]
     fn read(&mut self, place: u32) -> Result<u8, MemoryFault> {
-        if (place as usize) < self.cells.len().min(LIMIT) {
-            Ok(self.cells[place as usize])
-        } else {
-            Err(MemoryFault::at(place))
-        }
+        within(place, self.size())?;
+        Ok(self.cells[place as usize])
     }
 
+    #[tactic(auto, using(crate::proofs::Cuts::row_set, crate::proofs::Answers::write_inside, crate::proofs::Answers::write_refused, crate::proofs::Answers::refused_set))]
     fn write(&mut self, place: u32, octet: u8) -> Result<(), MemoryFault> {
-        if (place as usize) < self.cells.len().min(LIMIT) {
-            self.cells[place as usize] = octet;
-            Ok(())
-        } else {
-            Err(MemoryFault::at(place))
-        }
+        within(place, self.size())?;
+        self.cells[place as usize] = octet;
+        Ok(())
     }
 }

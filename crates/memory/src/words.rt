@@ -1,10 +1,10 @@
 // 16-bit words: an even place is the low half of its word, an odd one the high half.
-ghost use Rattle.std.specs.Prelude.{◌≡◌, ◌+◌, ◌*◌, ◌/◌, ◌%◌, min, length};
+ghost use Rattle.std.specs.Prelude.{◌≡◌, ◌+◌, ◌*◌, ◌/◌, ◌%◌, ◌≤◌, length};
 ghost use Rattle.memory.specs.Cuts.{counted};
 ghost use Rattle.memory.specs.Halves.{halves, halves-bounded, half_at, with_half};
 
 use crate::fault::MemoryFault;
-use crate::{LIMIT, Memory};
+use crate::{LIMIT, Memory, within};
 
 // A memory over a lent slice of words. What the slice holds beyond 61,440 octets is not part of it.
 #[derive(Drop)]
@@ -18,59 +18,30 @@ impl<'a> Words<'a> {
     {
         Words { cells }
     }
-
-    // How many words count.
-    fn count(&self) -> usize
-        ensures { result ≡ min (length self.now.cells.now) 30720 }
-    {
-        self.cells.len().min(LIMIT / 2)
-    }
 }
 
-fn low(word: u16) -> u8
-    ensures { result ≡ word % 256 }
+// How far above the lowest bit of its word the half at a place stands.
+fn shift(place: u32) -> u32
+    ensures { result ≡ 8 * (place % 2) }
 {
-    (word & 0xff) as u8
-}
-
-fn high(word: u16) -> u8
-    ensures { result ≡ word / 256 }
-{
-    (word >> 8) as u8
-}
-
-fn with_low(word: u16, octet: u8) -> u16
-    ensures { result ≡ word / 256 * 256 + octet }
-{
-    (word & 0xff00) | u16::from(octet)
-}
-
-fn with_high(word: u16, octet: u8) -> u16
-    ensures { result ≡ octet * 256 + word % 256 }
-{
-    (u16::from(octet) << 8) | (word & 0xff)
+    8 * (place % 2)
 }
 
 // The half of a word that stands at a place.
+#[tactic(auto, using(crate::proofs::Masks::half_is))]
 fn half(word: u16, place: u32) -> u8
     ensures { result ≡ half_at word place }
 {
-    if place % 2 == 0 {
-        low(word)
-    } else {
-        high(word)
-    }
+    ((word >> shift(place)) & 0xff) as u8
 }
 
 // The word with that half replaced, and the other kept.
+#[tactic(auto, using(crate::proofs::Masks::with_half_is))]
 fn with_half(word: u16, place: u32, octet: u8) -> u16
     ensures { result ≡ with_half word place octet }
 {
-    if place % 2 == 0 {
-        with_low(word, octet)
-    } else {
-        with_high(word, octet)
-    }
+    let shift = shift(place);
+    (word & !(0xff << shift)) | (u16::from(octet) << shift)
 }
 
 impl Memory for Words<'_> {
@@ -78,26 +49,25 @@ impl Memory for Words<'_> {
 
     ghost bounded = { λ m. halves-bounded m.cells.now };
 
-    fn size(&self) -> usize {
-        2 * self.count()
+    #[tactic(auto, using(crate::proofs::Halves::length_words))]
+    fn size(&self) -> usize
+        ensures value { result ≡ length (halves (counted 30720 self.now.cells.now)) }
+        ensures within { result ≤ 2 * length self.now.cells.now }
+    {
+        2 * self.cells.len().min(LIMIT / 2)
     }
 
+    #[tactic(auto, using(crate::proofs::Halves::word_read, crate::proofs::Answers::read_refused))]
     fn read(&mut self, place: u32) -> Result<u8, MemoryFault> {
-        let at = place as usize / 2;
-        if at < self.count() {
-            Ok(half(self.cells[at], place))
-        } else {
-            Err(MemoryFault::at(place))
-        }
+        within(place, self.size())?;
+        Ok(half(self.cells[place as usize / 2], place))
     }
 
+    #[tactic(auto, using(crate::proofs::Halves::word_set, crate::proofs::Answers::write_inside, crate::proofs::Answers::write_refused, crate::proofs::Answers::refused_set))]
     fn write(&mut self, place: u32, octet: u8) -> Result<(), MemoryFault> {
-        let at = place as usize / 2;
-        if at < self.count() {
-            self.cells[at] = with_half(self.cells[at], place, octet);
-            Ok(())
-        } else {
-            Err(MemoryFault::at(place))
-        }
+        within(place, self.size())?;
+        let word = &mut self.cells[place as usize / 2];
+        *word = with_half(*word, place, octet);
+        Ok(())
     }
 }

@@ -1,9 +1,10 @@
 -- One access: what it reaches, what it answers, and that the invariant of the channels holds after it. Assumes nothing.
 use Rattle.std.proofs.Common.{◌≡◌, ℕ, ◌+◌, ◌-◌, ◌<◌, ◌≤◌, Bool, true, false, ◌&&◌, leb, ◌≢◌, List, length, get_or, set, sym, refl, ap, ◌∙◌, subst, ⊎_elim, arith}
+use Rattle.std.proofs.Math.ListN.{get_or-map}
 use Rattle.std.specs.Option.{option_map}
 use Rattle.std.proofs.lemmas.List.{length-set, get_or-set_same, get_or-set_other, get_or_past}
 use Rattle.std.proofs.lemmas.Bool.{cases_Bool, cases_eq, cases_lt, ltb-true, leb-true, le-leb, and_parts, and_from, false≢true}
-use Rattle.memory.proofs.Answers.{read-inside, write-inside}
+use Rattle.memory.proofs.Answers.{read_inside, write_inside}
 use Rattle.bits.specs.Shares.{stored}
 use Rattle.channel.specs.Areas.{first_of, last_of}
 use Rattle.channel.specs.Windows.{offset_in, area_size}
@@ -21,7 +22,7 @@ use Rattle.rules.specs.Data.{Option, Some, None, Result, Ok, Err, Fault, Side, M
 use Rattle.rules.specs.Questions.{asked}
 use Rattle.rules.specs.Steps.{Station, out_of_service, in_service_as, service_at, known, asked_of, over, with_channels, register_at, fetch_in, store_in, fetch_free, store_free, fetch_window, store_window, fetched, stored_by, reads, writes}
 use Rattle.rules.specs.Account.{told, told_at, story_window}
-use Rattle.rules.proofs.Lists.{map_at, pairs-set-in}
+use Rattle.rules.proofs.Lists.{pairs-set-in}
 use Rattle.rules.proofs.Reached.{covered, window-reached, free-reached}
 use Rattle.rules.proofs.Held.{HeldIf, HeldIn, ApartIf, story_at, window_at, Channels, known-told}
 
@@ -59,7 +60,7 @@ fetched-window k v t =
 -- a story that is there stands within the list
 some-within : (ts : List (Option Story)) (n : ℕ) (t : Story) → story_at ts n ≡ Some t → n < length ts
 some-within ts n t e =
-    ⊎_elim (λ h. h) (λ h. absurd (let z = get_or_past ts n None h in let q : ◌≡◌ {A = ℕ} 0 1 = cc in omega arith)) (cases_lt n (length ts))
+    ⊎_elim (λ h. h) (λ h. absurd (let z = get_or_past ts n None h in cc)) (cases_lt n (length ts))
 
 -- areas stay apart where a story changes but for its window
 windows-set : (ts : List (Option Story)) (n : ℕ) (t u : Story) → story_at ts n ≡ Some t → u.window ≡ t.window → (i : ℕ) → window_at (set ts n (Some u)) i ≡ window_at ts i
@@ -87,11 +88,11 @@ pub record Both (m : List ℕ) (cs : List Channel) (ts : List (Option Story)) (x
 
 both_of : (m : List ℕ) (cs : List Channel) (ts : List (Option Story)) (x : Access) (n k : ℕ) (f : Facts) (o : Option Service) (t : Option Story) → service_at cs n ≡ o → story_at ts n ≡ t → HeldIf m o t →
     option_map facts_told t ≡ Some f → channel.asked f x.side x.direction (offset_in f.window x.address) ≡ Ok k → Both m cs ts x n k
-both_of m cs ts x n k f None None so st h e ok = absurd (let q : ◌≡◌ {A = ℕ} 0 1 = cc in omega arith)
+both_of m cs ts x n k f None None so st h e ok = absurd (cc)
 both_of m cs ts x n k f None (Some t) so st h e ok = absurd h
 both_of m cs ts x n k f (Some c) None so st h e ok = absurd h
 both_of m cs ts x n k f (Some c) (Some t) so st h e ok =
-    let is : facts_told t ≡ f = (let z = e in cc) in
+    let is : facts_told t ≡ f = (cc) in
     let agree : facts_of c ≡ f = facts-agree m c t h ∙ is in
     let at : k ≡ offset_in f.window x.address = asked-offset f x.side x.direction _ k ok in
     let all : channel.asked (facts_of c) x.side x.direction k ≡ Ok k =
@@ -110,7 +111,7 @@ both_of m cs ts x n k f (Some c) (Some t) so st h e ok =
 pub both-reached : (N : ℕ) (m : List ℕ) (cs : List Channel) (ts : List (Option Story)) → Channels m cs ts → (x : Access) (n k : ℕ) → asked N (told ts) x ≡ Ok (InWindow n k) → Both m cs ts x n k
 both-reached N m cs ts h x n k e =
     let w = window-reached N (told ts) x n k e in
-    both_of m cs ts x n k w.facts (service_at cs n) (story_at ts n) refl refl (h.held n) (sym (map_at (option_map facts_told) ts n None) ∙ w.known) w.ok
+    both_of m cs ts x n k w.facts (service_at cs n) (story_at ts n) refl refl (h.held n) (sym (get_or-map (option_map facts_told) ts n None) ∙ w.known) w.ok
 
 -- A READ of one access: refused as asked, or done, and told.
 pub data ReadView (N : ℕ) (s : Station) (ts : List (Option Story)) (x : Access) : Type 0 where
@@ -147,7 +148,7 @@ module _ (N : ℕ) (s : Station) (ts : List (Option Story)) (size : length s.oct
       let within : n < length ts = some-within ts n t b.story-at in
       let stories : set ts n (Some (fetched_at k v t)) ≡ told_at (λ j. fetched_at j v) ts (Ok (InWindow n k)) = ap (λ u. set ts n (option_map (fetched_at k v) u)) (sym b.story-at) in
       read_done (InWindow n k) v (with_channels s.core (set cs n (in_service_as (after_fetch c k)))) e
-      (ap (fetched s x) is ∙ (ap (fetch_window s n k (x.address - 0x1000)) b.service-at ∙ ap (fetch_in s n c k) (read-inside m (fetch_place c k) place)))
+      (ap (fetched s x) is ∙ (ap (fetch_window s n k (x.address - 0x1000)) b.service-at ∙ ap (fetch_in s n c k) (sym (read_inside m (fetch_place c k) place))))
       (record { number = refl; registers = refl; alias = refl; running = refl })
       (subst (Channels m (set cs n (in_service_as (after_fetch c k)))) stories
       (record {
@@ -165,7 +166,7 @@ module _ (N : ℕ) (s : Station) (ts : List (Option Story)) (size : length s.oct
       go (Ok (InFree p)) e =
           let f = free-reached N (told ts) x p e in
           let place : p < length m = (let z = f.within in omega arith) in
-          read_done (InFree p) (get_or m p 0) s.core e (ap (fetched s x) (asked-as-told N s ts size h x ∙ e) ∙ ap (fetch_free s) (read-inside m p place)) (rest-same s.core) h
+          read_done (InFree p) (get_or m p 0) s.core e (ap (fetched s x) (asked-as-told N s ts size h x ∙ e) ∙ ap (fetch_free s) (sym (read_inside m p place))) (rest-same s.core) h
       go (Ok (InWindow n k)) e = read-window way n k e (asked-as-told N s ts size h x ∙ e)
 
   -- A WRITE at a place in no area leaves every channel as it is.
@@ -195,10 +196,10 @@ module _ (N : ℕ) (s : Station) (ts : List (Option Story)) (size : length s.oct
       let f = free-reached N (told ts) x p e in
       let place : p < length m = (let z = f.within in omega arith) in
       let v : ℕ = stored x.share (get_or m p 0) o in
-      write_done (InFree p) (over s.core (set m p v)) e (ap (stored_by s x o) is ∙ ap (store_free s x.share p o) (read-inside m p place)) (rest-same s.core) (length-set m p v)
+      write_done (InFree p) (over s.core (set m p v)) e (ap (stored_by s x o) is ∙ ap (store_free s x.share p o) (sym (read_inside m p place))) (rest-same s.core) (length-set m p v)
       (record {
         long = h.long;
-        held = λ n. free-if p v (service_at cs n) (story_at ts n) f.place f.high (ap (λ g. covered g x.address) (sym (map_at (option_map facts_told) ts n None)) ∙ f.uncovered n) (h.held n);
+        held = λ n. free-if p v (service_at cs n) (story_at ts n) f.place f.high (ap (λ g. covered g x.address) (sym (get_or-map (option_map facts_told) ts n None)) ∙ f.uncovered n) (h.held n);
         apart = h.apart;
       })
 
@@ -223,7 +224,7 @@ module _ (N : ℕ) (s : Station) (ts : List (Option Story)) (size : length s.oct
       let within : n < length ts = some-within ts n t b.story-at in
       let stories : set ts n (Some (stored_at k o t)) ≡ told_at (λ j. stored_at j o) ts (Ok (InWindow n k)) = ap (λ u. set ts n (option_map (stored_at k o) u)) (sym b.story-at) in
       write_done (InWindow n k) (over (with_channels s.core (set cs n (in_service_as (after_store c k)))) after) e
-      (ap (stored_by s x o) is ∙ (ap (store_window s x.share n k (x.address - 0x1000) o) b.service-at ∙ ap (store_in s n c k o) (write-inside m (store_place c k) place)))
+      (ap (stored_by s x o) is ∙ (ap (store_window s x.share n k (x.address - 0x1000) o) b.service-at ∙ ap (store_in s n c k o) (sym (write_inside m (store_place c k) place))))
       (record { number = refl; registers = refl; alias = refl; running = refl })
       (length-set m (store_place c k) o)
       (subst (Channels after (set cs n (in_service_as (after_store c k)))) stories

@@ -1,5 +1,5 @@
 -- Each call keeps the invariant, and is answered as promised. Assumes nothing.
-use Rattle.std.proofs.Common.{◌≡◌, ℕ, ◌≤◌, Bool, true, false, cond, eqb, List, [], ◌∷◌, map, length, sym, refl, ap, ◌∙◌, subst, arith}
+use Rattle.std.proofs.Common.{◌≡◌, ℕ, ◌≤◌, Bool, true, false, cond, eqb, List, [], ◌∷◌, map, length, sym, refl, ap, ◌∙◌, subst}
 use Rattle.std.specs.Option.{option_map}
 use Rattle.std.proofs.lemmas.Bool.{cond-true, cond-false}
 use Rattle.channel_law.specs.Story.{Story, kept_story, fetched_at, stored_at}
@@ -107,12 +107,12 @@ module _ (N : ℕ) (small : N ≤ 61440) (s : Station) (ts : List (Option Story)
 
   -- A FRAME that is handed in: the running one, if it carries the station's number
   is-running : (n : ℕ) (r : Option Running) (f : Running) → mine number n r ≡ Some f → r ≡ Some f
-  is-running n None f e = absurd (let z : ◌≡◌ {A = ℕ} 0 1 = cc in omega arith)
+  is-running n None f e = absurd (cc)
   is-running n (Some g) f e = go (eqb number n) e
     where
       go : (b : Bool) → cond b (Some g) None ≡ Some f → Some g ≡ Some f
       go true d = d
-      go false d = absurd (let z : ◌≡◌ {A = ℕ} 0 1 = cc in omega arith)
+      go false d = absurd (cc)
 
   -- OCTET for no such frame
   no-octet : (n o : ℕ) → mine number n s.core.running ≡ None → Goes N number a (Octet n o) (s, no_such_frame)
@@ -294,7 +294,7 @@ module _ (N : ℕ) (small : N ≤ 61440) (s : Station) (ts : List (Option Story)
 
 -- of any station and account that fit
 same-account : (N number : ℕ) (s : Station) (b : Account) → Held N number s b → account_of s b.current b.past ≡ b
-same-account N number s b h =
+same-account _ _ s b h =
     ap (λ r. record { registers = r; alias = s.core.alias; running = s.core.running; current = b.current; past = b.past }) h.registers
     ∙ (ap (λ l. record { registers = b.registers; alias = l; running = s.core.running; current = b.current; past = b.past }) h.alias
     ∙ ap (λ f. record { registers = b.registers; alias = b.alias; running = f; current = b.current; past = b.past }) h.running)

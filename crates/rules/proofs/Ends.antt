@@ -1,7 +1,8 @@
 -- The end of a frame, of all channels. Assumes nothing.
 use Rattle.std.proofs.Common.{◌≡◌, ℕ, zero, suc, ◌+◌, ◌<◌, Bool, true, false, cond, not, ◌&&◌, ◌≢◌, List, [], ◌∷◌, ◌++◌, map, length, get_or, set, sym, refl, ap, ◌∙◌, subst, ⊎_elim, arith}
+use Rattle.std.proofs.Math.ListN.{get_or-map}
 use Rattle.std.specs.Option.{option_map, option_or}
-use Rattle.std.proofs.lemmas.List.{length-set, get_or-set_same, get_or-set_other, set_past}
+use Rattle.std.proofs.lemmas.List.{length-set, length-map, get_or-set_same, get_or-set_other, set_past, ext_get_or}
 use Rattle.std.proofs.lemmas.Bool.{cases_eq, cases_lt}
 use Rattle.channel.specs.Areas.{judged}
 use Rattle.channel.specs.Services.{after_kept, after_dropped}
@@ -18,7 +19,7 @@ use Rattle.rules.specs.Enabling.{as_channel, disabled, lasting, Enabled, decided
 use Rattle.rules.specs.Steps.{out_of_service, service_at, window_in, begun_channel, kept_channel, dropped_channel, kept_channels}
 use Rattle.rules.specs.Account.{story_window, begun_story, ended, kept_stories}
 use Rattle.rules.specs.Promise.{Every}
-use Rattle.rules.proofs.Lists.{map_at, map-length, lists-same, pairs_set}
+use Rattle.rules.proofs.Lists.{pairs_set}
 use Rattle.rules.proofs.Held.{HeldIf, HeldIn, ApartIf, story_at, window_at, Channels}
 use Rattle.rules.proofs.Accesses.{when-window, apart-as}
 
@@ -49,11 +50,11 @@ module _ (m : List ℕ) (f : Service → Service) (g : Story → Story) (keeps :
   pub all_alike : (cs : List Channel) (ts : List (Option Story)) → Channels m cs ts → Channels m (map each cs) (map (option_map g) ts)
   all_alike cs ts h =
       record {
-        long = map-length each cs ∙ (h.long ∙ sym (map-length (option_map g) ts));
+        long = length-map cs each ∙ (h.long ∙ sym (length-map ts (option_map g)));
         held = λ n.
-            subst (λ c. HeldIn m c (story_at (map (option_map g) ts) n)) (sym (map_at each cs n out_of_service))
-            (subst (HeldIf m (option_map f (service_at cs n))) (sym (map_at (option_map g) ts n None)) (each-if (service_at cs n) (story_at ts n) (h.held n)));
-        apart = apart-as ts (map (option_map g) ts) (λ i. ap story_window (map_at (option_map g) ts i None) ∙ window-if (story_at ts i)) h.apart;
+            subst (λ c. HeldIn m c (story_at (map (option_map g) ts) n)) (sym (get_or-map each cs n out_of_service))
+            (subst (HeldIf m (option_map f (service_at cs n))) (sym (get_or-map (option_map g) ts n None)) (each-if (service_at cs n) (story_at ts n) (h.held n)));
+        apart = apart-as ts (map (option_map g) ts) (λ i. ap story_window (get_or-map (option_map g) ts i None) ∙ window-if (story_at ts i)) h.apart;
       }
 
 pub all-kept : (m : List ℕ) (cs : List Channel) (ts : List (Option Story)) → Channels m cs ts → Channels m (map kept_channel cs) (map (option_map kept_story) ts)
@@ -119,10 +120,10 @@ ended-whole (s ∷ ss) (Some t ∷ ts) h past p = go s.enable (ended-whole ss ts
     go false rest = (h 0 t refl, rest)
 
 story-whole : (m : List ℕ) (o : Option Service) (u : Option Story) (t : Story) → HeldIf m o u → u ≡ Some t → law.Whole t
-story-whole m None None t h e = absurd (let z : ◌≡◌ {A = ℕ} 0 1 = cc in omega arith)
+story-whole m None None t h e = absurd (cc)
 story-whole m None (Some u) t h e = absurd h
 story-whole m (Some s) None t h e = absurd h
-story-whole m (Some s) (Some u) t h e = let is : u ≡ t = (let z = e in cc) in subst law.Whole is (whole.whole m s u h)
+story-whole m (Some s) (Some u) t h e = let is : u ≡ t = (cc) in subst law.Whole is (whole.whole m s u h)
 
 pub past-whole : (m : List ℕ) (ss : List Setting) (cs : List Channel) (ts : List (Option Story)) → Channels m cs ts → (past : List Story) → Every law.Whole past → Every law.Whole (ended ss ts ++ past)
 past-whole m ss cs ts h past p = ended-whole ss ts (λ n t e. story-whole m (service_at cs n) (story_at ts n) t (h.held n) e) past p
@@ -147,8 +148,8 @@ by_story t = as_channel (story_window t)
 
 others_same : (m : List ℕ) (cs : List Channel) (ts : List (Option Story)) → Channels m cs ts → map by_channel cs ≡ map by_story ts
 others_same m cs ts h =
-    lists-same out_of_service (map by_channel cs) (map by_story ts) (map-length by_channel cs ∙ (h.long ∙ sym (map-length by_story ts)))
-    (λ n. map_at by_channel cs n out_of_service ∙ (ap as_channel (window_same m (service_at cs n) (story_at ts n) (h.held n)) ∙ sym (map_at by_story ts n None)))
+    ext_get_or out_of_service (map by_channel cs) (map by_story ts) (length-map cs by_channel ∙ (h.long ∙ sym (length-map ts by_story)))
+    (λ n within. get_or-map by_channel cs n out_of_service ∙ (ap as_channel (window_same m (service_at cs n) (story_at ts n) (h.held n)) ∙ sym (get_or-map by_story ts n None)))
 
 -- a new window is apart from those in service
 disjoint-at : (w : Window) (cs : List Channel) → DisjointAll w cs → (i : ℕ) → DisjointIn w (service_at cs i)
@@ -161,7 +162,7 @@ apart-window w None d = tt
 apart-window w (Some v) d = d
 
 apart-new : (w : Window) (ts : List (Option Story)) → DisjointAll w (map by_story ts) → (i : ℕ) → ApartIf (Some w) (window_at ts i)
-apart-new w ts d i = apart-window w (window_at ts i) (subst (λ (c : Channel). DisjointIn w c.service) (map_at by_story ts i None) (disjoint-at w (map by_story ts) d i))
+apart-new w ts d i = apart-window w (window_at ts i) (subst (λ (c : Channel). DisjointIn w c.service) (get_or-map by_story ts i None) (disjoint-at w (map by_story ts) d i))
 
 apart-sym : (w : Window) (o : Option Window) → ApartIf (Some w) o → ApartIf o (Some w)
 apart-sym w None d = tt

@@ -1,5 +1,7 @@
 -- The invariant between a station and the account of its history. Assumes nothing.
 use Rattle.std.proofs.Common.{◌≡◌, ℕ, zero, suc, ◌≤◌, ◌≢◌, List, [], ◌∷◌, length, get_or, replicate, sym, refl, ap, ◌∙◌, subst}
+use Rattle.std.proofs.Math.ListN.{get_or-map}
+use Rattle.std.proofs.lemmas.List.{length-map, ext_get_or}
 use Rattle.std.specs.Option.{option_map}
 use Rattle.channel.specs.Services.{facts_of}
 use Rattle.channel_law.specs.Story.{Story, facts_told}
@@ -12,7 +14,6 @@ use Rattle.rules.specs.Data.{Option, Some, None, Window, Service, Channel, Facts
 use Rattle.rules.specs.Steps.{Station, station, out_of_service, service_at, known}
 use Rattle.rules.specs.Account.{Account, nothing, told, story_window}
 use Rattle.rules.specs.Promise.{Every, WholeIfAny}
-use Rattle.rules.proofs.Lists.{map_at, map-length, lists-same}
 
 -- ONE CHANNEL: both are out of service, or its invariant holds
 abbrev pub HeldIf : List ℕ → Option Service → Option Story → Type 0
@@ -88,8 +89,8 @@ facts_in c = option_map facts_of c.service
 
 pub known-told : (m : List ℕ) (cs : List Channel) (ts : List (Option Story)) → Channels m cs ts → known cs ≡ told ts
 known-told m cs ts h =
-    lists-same None (known cs) (told ts) (map-length facts_in cs ∙ (h.long ∙ sym (map-length (option_map facts_told) ts)))
-    (λ n. map_at facts_in cs n out_of_service ∙ (facts-if m (service_at cs n) (story_at ts n) (h.held n) ∙ sym (map_at (option_map facts_told) ts n None)))
+    ext_get_or None (known cs) (told ts) (length-map cs facts_in ∙ (h.long ∙ sym (length-map ts (option_map facts_told))))
+    (λ n within. get_or-map facts_in cs n out_of_service ∙ (facts-if m (service_at cs n) (story_at ts n) (h.held n) ∙ sym (get_or-map (option_map facts_told) ts n None)))
 
 -- every story is whole
 whole-if : (m : List ℕ) (o : Option Service) (t : Option Story) → HeldIf m o t → WholeIfAny t

@@ -1,5 +1,6 @@
 -- An access in its turn: when it is refused, in words. Assumes nothing.
 use Rattle.std.proofs.Common.{◌≡◌, ℕ, ◌+◌, ◌-◌, ◌≤◌, true, false, not, ◌&&◌, ltb, leb, List, length, get_or, sym, refl, ap, ◌∙◌, subst, arith}
+use Rattle.std.proofs.Math.ListN.{get_or-map}
 use Rattle.std.specs.Option.{option_map}
 use Rattle.std.proofs.lemmas.Bool.{ltb-true, leb-true, lt-ltb, le-ltb, le-leb, and_parts, and_from, and_right, cond-true, cond-false}
 use Rattle.bits.specs.Shares.{splits}
@@ -20,7 +21,6 @@ use Rattle.rules.specs.Steps.{service_at}
 use Rattle.rules.specs.Account.{told}
 use Rattle.rules.specs.Faults.{Notice, notice}
 use Rattle.rules.specs.Promise.{turned_away, RefusedIn, RefusedAt}
-use Rattle.rules.proofs.Lists.{map_at}
 use Rattle.rules.proofs.Reached.{covered, found-covers}
 use Rattle.rules.proofs.Held.{HeldIf, story_at, Channels}
 
@@ -52,7 +52,7 @@ module _ (N : ℕ) (m : List ℕ) (cs : List Channel) (ts : List (Option Story))
     a = x.address
 
     facts_at : get_or (told ts) n None ≡ Some (facts_told t)
-    facts_at = map_at (option_map facts_told) ts n None ∙ ap (option_map facts_told) at
+    facts_at = get_or-map (option_map facts_told) ts n None ∙ ap (option_map facts_told) at
 
     covers-it : (leb (first_of t.window) x.address && leb x.address (last_of t.window)) ≡ true
     covers-it = sym (ap (λ f. covered f x.address) facts_at) ∙ found-covers (told ts) x.address n found

@@ -1,5 +1,5 @@
 -- The number, the address and the channel of a refusal. Assumes nothing.
-use Rattle.std.specs.Prelude.{ℕ, ◌+◌, min, Option, unwrap_or}
+use Rattle.std.specs.Prelude.{ℕ, ◌+◌, min, unwrap_or}
 use Rattle.memory.specs.Octets.{place_of}
 use Rattle.memory.specs.Octets as memory
 use Rattle.channel.specs.Facts.{refusal_number}

@@ -8,7 +8,7 @@ use frame::progress::{Progress, Verdict};
 use mapping::entity::Entity;
 
 // The registers that the master writes. (The alias is the local side's and stands in the core.)
-#[derive(Clone, Copy)]
+#[derive(Clone, Copy, Default)]
 pub struct Registers {
     pub address: u16,
     pub entities: [Entity; 8],
@@ -16,6 +16,7 @@ pub struct Registers {
 }
 
 // What stands at an address below 0x1000: octet `octet` of one of these, or nothing.
+// `Unlisted` is a row of the register map as the others are: it reads 0, keeps nothing, and is refused with 1.
 #[derive(Clone, Copy)]
 pub enum Register {
     Unlisted,
@@ -44,6 +45,7 @@ pub struct Core {
 }
 
 // One read or write at one physical address. A mapped one may have only a part of its octet.
+// Two facts, since an access that is not mapped has a share as well, the whole octet.
 #[derive(Clone, Copy)]
 pub struct Access {
     pub side: Side,

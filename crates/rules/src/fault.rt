@@ -45,6 +45,7 @@ impl From<MemoryFault> for Fault {
 }
 
 impl Reason {
+    // The number by which the rules tell the refusal outside; in the code it is this enum.
     pub fn number(self) -> u8
         ensures { result ≡ reason_number self }
     {
@@ -83,7 +84,7 @@ impl Fault {
         }
     }
 
-    // The channel, or 255.
+    // The channel, or 255, the number that the rules have for none; in the code none is `None`.
     pub fn channel(self) -> u8
         ensures { result ≡ channel_of self }
     {

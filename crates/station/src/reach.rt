@@ -34,8 +34,7 @@ impl<M: Memory> Station<M> {
         ensures { result ≡ register_at self.now.station register }
     {
         let units = (self.memory.size() / 1024) as u8;
-        let core = &self.core;
-        register_octet(units, &core.registers, core.alias, &core.channels, register)
+        register_octet(units, &self.core, register)
     }
 
     fn fetch_free(&mut self, place: u32) -> Result<u8, Fault>

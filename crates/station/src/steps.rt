@@ -97,8 +97,7 @@ impl<M: Memory> Station<M> {
     pub(crate) fn octet_of_frame(&mut self, frame: &Frame, octet: u8) -> Result<OctetAnswer, Fault>
         ensures { (self.new.station, octet_as result) ≡ step self.old.station (OctetCall frame.now.number octet) }
     {
-        let running = mine(self.core.number, frame.number, self.core.running);
-        let running = running.ok_or(refused(Reason::NoSuchFrame, 0))?;
+        let running = mine(&self.core, frame.number).ok_or(refused(Reason::NoSuchFrame, 0))?;
         self.octet_given(running, octet)
     }
 
@@ -152,7 +151,7 @@ impl<M: Memory> Station<M> {
         ensures step { (self.new.station, ended_as result) ≡ step self.old.station (EndCall frame.number verdict) }
         ensures back { Same frame result }
     {
-        let Some(running) = mine(self.core.number, frame.number, self.core.running) else {
+        let Some(running) = mine(&self.core, frame.number) else {
             return Err(EndRefusal::NotThisFrame(frame));
         };
         let Frame { number: _ } = frame;

@@ -5,6 +5,6 @@ use Rattle.core_steps.specs.Enablings.{enabled_as}
 use Rattle.core_steps.proofs.enabling.enable_all.Given as goal
 
 -- what is left gives the answer of the whole
-abbrev pub invariant-loop-i : goal.invariant-loop-i
-invariant-loop-i l =
-    enabled_from window_in begun_channel out_of_service l.size l.i (drop l.i l.settings) (enabled_as l.so_far) ≡ enabled_from window_in begun_channel out_of_service l.size 0 l.settings (enabled_as l.initial.so_far)
+abbrev pub invariant-loop-index : goal.invariant-loop-index
+invariant-loop-index l =
+    enabled_from window_in begun_channel out_of_service l.size l.index (drop l.index l.settings) (enabled_as l.so_far) ≡ enabled_from window_in begun_channel out_of_service l.size 0 l.settings (enabled_as l.initial.so_far)

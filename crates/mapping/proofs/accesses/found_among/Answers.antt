@@ -1,38 +1,24 @@
-use Rattle.std.proofs.Common.{Some, None, sym, subst, arith, length-drop}
-use Rattle.mapping.specs.Mapping.{listed}
-use Rattle.mapping.proofs.Steps.{Walked, walked_none, walked_all, walked-full, searched, turned, started, found_within}
+use Rattle.std.proofs.Common.{subst, refl, rules, arith}
+use Rattle.mapping.proofs.Steps.{Reached, reached_none, reached_more, reached_all, reached-full, started}
 use Rattle.mapping.proofs.accesses.found_among.Goals as goal
 
 pub loop-free-init : goal.loop-free-init
-loop-free-init c = (
-  subst (λ xs. Walked c.args.entities.now c.args.direction c.args.address 0 255 xs) (sym c.none-found.ensures.list) (walked_none c.args.entities.now c.args.direction c.args.address),
-  omega arith,
-)
+loop-free-init c = rw c.new-found.ensures (reached_none c.args.entities.now c.args.direction c.args.address)
 
-pub push_bits-requires : goal.push_bits-requires
-push_bits-requires c =
-    let law = searched c.args.entities.now c.loop-free.next c.args.address (Some c.in-Some.step) c.in-Some.ensures in
-    let long = length-drop c.loop-free.next c.args.entities.now in
-    record {
-      room = omega (arith, law.0, c.loop-free.invariant.1);
-      within = found_within c.args.entities.now c.args.direction c.args.address c.loop-free.next c.in-Some.step law.1;
-      started = started c.args.entities.now c.args.direction c.args.address c.loop-free.next c.in-Some.step c.loop-free.free c.in_octet-covered.result c.bits_covered.result c.in_octet-covered.ensures c.bits_covered.ensures;
-    }
+pub push_bits-requires-clause-started : goal.push_bits-requires-clause-started
+push_bits-requires-clause-started c =
+    started c.args.entities.now c.args.direction c.args.address c.loop-free.rest.now c.in-Some.index c.loop-free.free c.in_octet-covered.result c.bits_covered.result c.in_octet-covered.ensures c.bits_covered.ensures
 
 pub loop-free-preserved : goal.loop-free-preserved
 loop-free-preserved c =
-    let law = searched c.args.entities.now c.loop-free.next c.args.address (Some c.in-Some.step) c.in-Some.ensures in (
-      turned c.args.entities.now c.args.direction c.args.address c.loop-free.next c.in-Some.step c.loop-free.free c.in_octet-covered.result c.bits_covered.result c.in_octet-covered.ensures c.bits_covered.ensures
-          (listed c.loop-free.found) (listed c.push_bits.new.self) law.0 law.2 (omega arith) c.push_bits.ensures.list c.loop-free.invariant.0,
-      omega (arith, c.push_bits.ensures.count, c.loop-free.invariant.1),
-    )
+    reached_more c.args.entities.now c.args.direction c.args.address c.loop-free.rest.now c.in-Some.index c.loop-free.free c.in_octet-covered.result c.bits_covered.result c.in_octet-covered.ensures c.bits_covered.ensures
+    _ c.loop-free.found.items c.push_bits.new.found.items refl c.in-Some.ensures.0 c.in-Some.ensures.2 (omega arith) c.push_bits.ensures.list c.push_bits.ensures.count c.loop-free.invariant
 
-pub returns-in_default : goal.returns-in_default
-returns-in_default c =
-    walked_all c.args.entities.now c.args.direction c.args.address c.loop-free.next c.loop-free.free (listed c.loop-free.found)
-    (searched c.args.entities.now c.loop-free.next c.args.address None c.in_default.ensures) c.loop-free.invariant.0
+pub returns-in-loop-free : goal.returns-in-loop-free
+returns-in-loop-free c =
+    reached_all c.args.entities.now c.args.direction c.args.address c.loop-free.rest.now c.loop-free.free c.loop-free.found.items c.lowest_in.result c.lowest_in.ensures (search rules) c.loop-free.invariant
 
-pub returns : goal.returns
-returns c =
-    walked-full c.args.entities.now c.args.direction c.args.address 8 c.loop-free.next (listed c.loop-free.found) (omega arith)
-    (subst (λ m. Walked c.args.entities.now c.args.direction c.args.address c.loop-free.next m (listed c.loop-free.found)) c.loop-free-test.false c.loop-free.invariant.0)
+pub returns-after-loop-free : goal.returns-after-loop-free
+returns-after-loop-free c =
+    reached-full c.args.entities.now c.args.direction c.args.address c.loop-free.rest.now c.loop-free.found.items
+    (subst (λ m. Reached c.args.entities.now c.args.direction c.args.address c.loop-free.rest.now m c.loop-free.found.items) c.loop-free-test.false c.loop-free.invariant)
