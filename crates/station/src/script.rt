@@ -65,7 +65,6 @@ impl<M: Memory> Station<M> {
         }
     }
 
-    #[tactic(auto, using(crate::proofs::Running::all_told, crate::proofs::Running::all_run))]
     fn run(&mut self, script: &mut [Entry])
         ensures answers { told script.new ≡ history self.old.station (calls_of script.old) }
         ensures after { self.new.station ≡ runs self.old.station (calls_of script.old) }
