@@ -11,11 +11,11 @@ pub(crate) const STORING: [u8; 8] = [0x00, 0x10, 4, 0, 0x04, 0, 1, 0];
 pub(crate) const MESSAGE: [u8; 4] = [0x11, 0x22, 0x33, 0x44];
 
 // A frame with one datagram APWR for the first station, up to its data.
-pub(crate) fn header(ado: u16, data: &[u8]) -> [u8; 12]
-    requires { length data.now ≤ 8 }
+pub(crate) fn header(ado: u16, payload: &[u8]) -> [u8; 12]
+    requires { length payload.now ≤ 8 }
 {
     let [low, high] = ado.to_le_bytes();
-    let count = data.len() as u8;
+    let count = payload.len() as u8;
     [12 + count, 0x10, 2, 0, 0, 0, low, high, count, 0, 0, 0]
 }
 

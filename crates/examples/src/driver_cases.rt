@@ -17,16 +17,16 @@ mod tests {
     fn sent<M: Memory>(
         station: &mut Station<M>,
         ado: u16,
-        data: &[u8],
+        payload: &[u8],
         verdict: Verdict,
     ) -> Result<Option<Fault>, u8>
-        requires { length data.now ≤ 8 }
+        requires { length payload.now ≤ 8 }
     {
         let mut room = [0; 22];
-        let end = 12 + data.len();
+        let end = 12 + payload.len();
         let octets = &mut room[..end + 2];
-        octets[..12].copy_from_slice(&header(ado, data));
-        octets[12..end].copy_from_slice(data);
+        octets[..12].copy_from_slice(&header(ado, payload));
+        octets[12..end].copy_from_slice(payload);
         transmit(station, octets, verdict).map_err(Fault::number)
     }
 
@@ -45,7 +45,7 @@ mod tests {
         }
     }
 
-    // A frame that is handed to the wrong station comes back, and is ended at its own: how both ends go.
+    // A frame that is handed to the wrong station comes back, which is refusal 15, and is ended at its own: how both ends go.
     fn astray<M: Memory, O: Memory>(
         wrong: &mut Station<M>,
         own: &mut Station<O>,

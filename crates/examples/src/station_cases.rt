@@ -32,14 +32,14 @@ mod tests {
     fn sent<M: Memory>(
         station: &mut Station<M>,
         ado: u16,
-        data: &[u8],
+        payload: &[u8],
         verdict: Verdict,
     ) -> Result<Option<Fault>, u8>
-        requires { length data.now ≤ 8 }
+        requires { length payload.now ≤ 8 }
     {
         let frame = station.begin().map_err(Fault::number)?;
-        feed(station, &frame, &header(ado, data));
-        feed(station, &frame, data);
+        feed(station, &frame, &header(ado, payload));
+        feed(station, &frame, payload);
         feed(station, &frame, &[0, 0]);
         ended(station, frame, verdict)
     }
