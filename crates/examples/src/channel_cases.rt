@@ -2,7 +2,7 @@
 #[cfg(test)]
 mod tests {
     use access::{Direction, Side};
-    use channel::{Channel, Facts, Kind, Service, Setting, Window};
+    use channel::{Channel, Denial, Facts, Kind, Refusal, Service, Setting, Window};
     use cover::lowest_covering;
     use memory::Memory;
     use memory::row::Row;
@@ -109,48 +109,34 @@ mod tests {
         Ok(())
     }
 
-    // The number that refuses an enabling, 0 if it is accepted.
-    fn judged(size: usize, channels: &[Channel], setting: Setting) -> u8 {
-        match setting.judged(size, channels) {
-            Ok(_) => 0,
-            Err(denial) => denial.number(),
-        }
-    }
-
     #[test]
     fn enablings(rt: HostRuntime) -> Result<(), Fail> {
         let buffered = Channel {
             service: Some(Service::begun(setting(0x1000, 4, 0).judged(1024, &[])?)),
         };
         let table = [
-            (setting(0x1100, 2, 0), 0),
-            (setting(0x1100, 1, 0), 20),
-            (setting(0x1100, 2, 0x76), 0),
-            (setting(0x1100, 2, 1), 19),
-            (setting(0x1100, 2, 3), 19),
-            (setting(0x1100, 1, 8), 19),
-            (setting(0x13f4, 4, 0), 0),
-            (setting(0x13f5, 4, 0), 21),
-            (setting(0x13fc, 4, 2), 0),
-            (setting(0x13fd, 4, 2), 21),
-            (setting(0x0fff, 2, 2), 21),
-            (setting(0xffff, 0xffff, 0), 21),
-            (setting(0x100c, 4, 0), 0),
-            (setting(0x100b, 4, 0), 22),
-            (setting(0x1000, 2, 2), 22),
+            (setting(0x1100, 2, 0), None),
+            (setting(0x1100, 1, 0), Some(20)),
+            (setting(0x1100, 2, 0x76), None),
+            (setting(0x1100, 2, 1), Some(19)),
+            (setting(0x1100, 2, 3), Some(19)),
+            (setting(0x1100, 1, 8), Some(19)),
+            (setting(0x13f4, 4, 0), None),
+            (setting(0x13f5, 4, 0), Some(21)),
+            (setting(0x13fc, 4, 2), None),
+            (setting(0x13fd, 4, 2), Some(21)),
+            (setting(0x0fff, 2, 2), Some(21)),
+            (setting(0xffff, 0xffff, 0), Some(21)),
+            (setting(0x100c, 4, 0), None),
+            (setting(0x100b, 4, 0), Some(22)),
+            (setting(0x1000, 2, 2), Some(22)),
         ];
+        // an enabling, and the number of its refusal
         for (asked, number) in table {
-            assert_eq!(rt; judged(1024, &[OFF, buffered], asked), number);
+            let judged = asked.judged(1024, &[OFF, buffered]);
+            assert_eq!(rt; judged.err().map(Denial::number), number);
         }
         Ok(())
-    }
-
-    // The number that refuses an access, 0 if it is allowed.
-    fn refused(facts: Facts, side: Side, direction: Direction, offset: u8) -> u8 {
-        match facts.ask(side, direction, START + u32::from(offset)) {
-            Ok(_) => 0,
-            Err(refusal) => refusal.number(),
-        }
     }
 
     #[test]
@@ -183,17 +169,17 @@ mod tests {
             ..new
         };
         let table = [
-            (new, Side::Master, Direction::Write, 0, 0),
-            (new, Side::Master, Direction::Write, 1, 8),
-            (new, Side::Master, Direction::Write, 4, 5),
-            (new, Side::Master, Direction::Write, 11, 5),
-            (new, Side::Local, Direction::Write, 0, 6),
-            (new, Side::Master, Direction::Read, 0, 6),
-            (new, Side::Local, Direction::Read, 0, 11),
-            (two, Side::Master, Direction::Write, 2, 0),
-            (two, Side::Master, Direction::Write, 3, 8),
-            (two, Side::Master, Direction::Write, 0, 0),
-            (two, Side::Local, Direction::Read, 0, 0),
+            (new, Side::Master, Direction::Write, 0u8, None),
+            (new, Side::Master, Direction::Write, 1, Some(8)),
+            (new, Side::Master, Direction::Write, 4, Some(5)),
+            (new, Side::Master, Direction::Write, 11, Some(5)),
+            (new, Side::Local, Direction::Write, 0, Some(6)),
+            (new, Side::Master, Direction::Read, 0, Some(6)),
+            (new, Side::Local, Direction::Read, 0, Some(11)),
+            (two, Side::Master, Direction::Write, 2, None),
+            (two, Side::Master, Direction::Write, 3, Some(8)),
+            (two, Side::Master, Direction::Write, 0, None),
+            (two, Side::Local, Direction::Read, 0, None),
             (
                 Facts {
                     closed: true,
@@ -202,7 +188,7 @@ mod tests {
                 Side::Master,
                 Direction::Write,
                 3,
-                7,
+                Some(7),
             ),
             (
                 Facts {
@@ -212,7 +198,7 @@ mod tests {
                 Side::Local,
                 Direction::Read,
                 0,
-                0,
+                None,
             ),
             (
                 Facts {
@@ -222,7 +208,7 @@ mod tests {
                 Side::Local,
                 Direction::Read,
                 0,
-                10,
+                Some(10),
             ),
             (
                 Facts {
@@ -232,13 +218,15 @@ mod tests {
                 Side::Master,
                 Direction::Write,
                 0,
-                0,
+                None,
             ),
-            (full, Side::Master, Direction::Write, 0, 9),
-            (full, Side::Local, Direction::Read, 0, 0),
+            (full, Side::Master, Direction::Write, 0, Some(9)),
+            (full, Side::Local, Direction::Read, 0, None),
         ];
+        // an access, and the number of its refusal
         for (facts, side, direction, offset, number) in table {
-            assert_eq!(rt; refused(facts, side, direction, offset), number);
+            let asked = facts.ask(side, direction, START + u32::from(offset));
+            assert_eq!(rt; asked.err().map(Refusal::number), number);
         }
     }
 
@@ -252,10 +240,9 @@ mod tests {
             enable: false,
         };
         let kept = [0xff, 0xff, 0xff, 0xff, 0x7f, 0x30, 0x01, 0x00];
-        for (i, octet) in kept.iter().enumerate() {
-            let index = (i % 8) as u8;
+        for (index, octet) in (0u8..8).zip(kept) {
             let ones = zero.with_octet(index, 0xff);
-            assert_eq!(rt; ones.octet(index, 0x30), *octet);
+            assert_eq!(rt; ones.octet(index, 0x30), octet);
             assert_eq!(rt; ones.with_octet(index, 0), zero);
         }
         assert_eq!(rt; zero.with_octet(0, 0x34).with_octet(1, 0x12).start, 0x1234);

@@ -1,40 +1,23 @@
 // A driver around a station, as a device maker writes one: frames come in octet by octet, and go out in their place.
 ghost use Rattle.std.specs.Prelude.{◌≡◌};
-ghost use Rattle.station.specs.Replies.{octet_as, frame_in, SameFrame};
-ghost use Rattle.examples.specs.Driving.{goes_out, given, out, given_all, out_all, transmitted, transmitted_answer, transmitted_as, transmitted_out};
+ghost use Rattle.station.specs.Replies.{frame_in, SameFrame};
+ghost use Rattle.examples.specs.Driving.{given_all, out_all, transmitted, transmitted_answer, transmitted_as, transmitted_out};
 
 use frame::progress::Verdict;
 use memory::Memory;
 use rules::fault::Fault;
-use station::{EndRefusal, Frame, OctetAnswer, Station};
+use station::{EndRefusal, Frame, Station};
 
-// A refused octet goes out as it came.
-fn forwarded(answer: Result<OctetAnswer, Fault>, octet: u8) -> u8
-    ensures { result ≡ goes_out octet (octet_as answer) }
-{
-    match answer {
-        Ok(answer) => answer.forwarded,
-        Err(_) => octet,
-    }
-}
-
-// Gives the station one octet: the one that goes out.
-fn pass_one<M: Memory>(station: &mut Station<M>, frame: &Frame, octet: u8) -> u8
-    ensures after { station.new.station ≡ given frame.now.number station.old.station octet }
-    ensures leaves { result ≡ out frame.now.number station.old.station octet }
-    ensures frame { SameFrame station.old.station station.new.station }
-{
-    forwarded(station.octet(frame, octet), octet)
-}
-
-// Gives the station the octets of a frame one by one, and leaves in their place those that go out.
+// Gives the station the octets of a frame one by one, and leaves in their place those that go out: a refused one goes out as it came.
 fn pass<M: Memory>(station: &mut Station<M>, frame: &Frame, octets: &mut [u8])
     ensures after { station.new.station ≡ given_all frame.now.number station.old.station octets.old }
     ensures leaves { octets.new ≡ out_all frame.now.number station.old.station octets.old }
     ensures frame { SameFrame station.old.station station.new.station }
 {
     for octet in octets.iter_mut() {
-        *octet = pass_one(station, frame, *octet);
+        *octet = station
+            .octet(frame, *octet)
+            .map_or(*octet, |answer| answer.forwarded);
     }
 }
 

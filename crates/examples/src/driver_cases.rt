@@ -1,124 +1,89 @@
 // The station under a driver: a buffered channel, a dropped frame, a frame handed to another station.
-ghost use Rattle.std.specs.Prelude.{◌≡◌, Some};
+ghost use Rattle.std.specs.Prelude.{◌≡◌, ◌≤◌, length, Some};
 ghost use Rattle.station.specs.Replies.{frame_in};
 
 #[cfg(test)]
 mod tests {
+    use crate::common::{MESSAGE, STORING, header, seen};
     use crate::driver::transmit;
     use frame::progress::Verdict;
     use memory::Memory;
     use memory::row::Row;
     use rules::fault::Fault;
     use station::{EndRefusal, Frame, Station};
+    use std::test::Fail;
 
-    // Start 0x1000, four octets, buffered, the master stores, enabled.
-    const STORING: [u8; 8] = [0x00, 0x10, 4, 0, 0x04, 0, 1, 0];
-
-    // A frame with one datagram APWR for the first station: the refusal's number, 0 if it is kept and no enabling refused.
+    // A frame with one datagram APWR for the first station: the lowest enabling that was refused, if any, or the number of the refusal.
     fn sent<M: Memory>(
         station: &mut Station<M>,
         ado: u16,
-        data: &[u8; 8],
-        length: u8,
+        payload: &[u8],
         verdict: Verdict,
-    ) -> u8 {
-        let [low, high] = ado.to_le_bytes();
-        let count = length.min(8);
-        let [a, b, c, d, e, f, g, h] = *data;
-        let mut octets = [
-            12 + count,
-            0x10,
-            2,
-            0,
-            0,
-            0,
-            low,
-            high,
-            count,
-            0,
-            0,
-            0,
-            a,
-            b,
-            c,
-            d,
-            e,
-            f,
-            g,
-            h,
-            0,
-            0,
-        ];
-        match transmit(station, &mut octets[0..14 + count as usize], verdict) {
-            Ok(None) => 0,
-            Ok(Some(fault)) => fault.number(),
-            Err(fault) => fault.number(),
-        }
+    ) -> Result<Option<Fault>, u8>
+        requires { length payload.now ≤ 8 }
+    {
+        let mut room = [0; 22];
+        let end = 12 + payload.len();
+        let octets = &mut room[..end + 2];
+        octets[..12].copy_from_slice(&header(ado, payload));
+        octets[12..end].copy_from_slice(payload);
+        transmit(station, octets, verdict).map_err(Fault::number)
     }
 
-    // Ends the frame that runs: the refusal's number, 0 if it is kept. It runs here, so it is not handed back.
-    fn ended<M: Memory>(station: &mut Station<M>, frame: Frame, verdict: Verdict) -> u8
+    // Ends the frame that runs, which is so not handed back.
+    fn ended<M: Memory>(
+        station: &mut Station<M>,
+        frame: Frame,
+        verdict: Verdict,
+    ) -> Result<Option<Fault>, u8>
         requires { frame_in station.old.station.core ≡ Some frame.number }
     {
         match station.end(frame, verdict) {
-            Ok(_) => 0,
-            Err(EndRefusal::Dropped(fault)) => fault.number(),
-            Err(EndRefusal::NotThisFrame(_frame)) => unreachable(),
+            Ok(enabling) => Ok(enabling),
+            Err(EndRefusal::Dropped(fault)) => Err(fault.number()),
+            Err(EndRefusal::NotThisFrame(_frame)) => unreachable!(),
         }
     }
 
-    // A frame that is handed to the wrong station comes back, and is ended at its own.
-    fn astray<M: Memory, O: Memory>(wrong: &mut Station<M>, own: &mut Station<O>) -> (u8, u8) {
-        match own.begin() {
-            Err(fault) => (0, fault.number()),
-            Ok(frame) => match wrong.end(frame, Verdict::Good) {
-                Err(EndRefusal::NotThisFrame(frame)) => (15, ended(own, frame, Verdict::Bad)),
-                Err(EndRefusal::Dropped(fault)) => (fault.number(), 0),
-                Ok(_) => (0, 0),
-            },
+    // A frame that is handed to the wrong station comes back, which is refusal 15, and is ended at its own: how both ends go.
+    fn astray<M: Memory, O: Memory>(
+        wrong: &mut Station<M>,
+        own: &mut Station<O>,
+    ) -> Result<[Result<Option<Fault>, u8>; 2], Fault> {
+        let frame = own.begin()?;
+        match wrong.end(frame, Verdict::Good) {
+            Ok(enabling) => Ok([Ok(enabling), Ok(None)]),
+            Err(EndRefusal::Dropped(fault)) => Ok([Err(fault.number()), Ok(None)]),
+            Err(EndRefusal::NotThisFrame(frame)) => Ok([Err(15), ended(own, frame, Verdict::Bad)]),
         }
     }
-
-    // The octet, or 256 and the refusal's number.
-    fn seen(answer: Result<u8, Fault>) -> u16 {
-        match answer {
-            Ok(octet) => octet as u16,
-            Err(fault) => 256 + fault.number() as u16,
-        }
-    }
-
-    const MESSAGE: [u8; 8] = [0x11, 0x22, 0x33, 0x44, 0, 0, 0, 0];
 
     #[test]
     fn buffered(rt: HostRuntime) {
         let mut cells = [0u8; 16];
         let mut station = Station::new(Row::new(&mut cells), 7);
-        let configured = sent(&mut station, 0x0800, &STORING, 8, Verdict::Good);
-        let empty = seen(station.read(0x1000));
-        let dropped = sent(&mut station, 0x1000, &MESSAGE, 4, Verdict::Bad);
-        let cancelled = seen(station.read(0x1000));
-        let kept = sent(&mut station, 0x1000, &MESSAGE, 4, Verdict::Good);
-        let first = seen(station.read(0x1000));
-        let ahead = seen(station.read(0x1002));
-        let _ = station.into_memory();
-        assert!(rt; configured == 0);
-        assert!(rt; empty == 256 + 11);
-        assert!(rt; dropped == 18);
-        assert!(rt; cancelled == 256 + 11);
-        assert!(rt; kept == 0);
-        assert!(rt; first == 0x11);
-        assert!(rt; ahead == 256 + 8);
+        assert_eq!(rt;
+            sent(&mut station, 0x0800, &STORING, Verdict::Good),
+            Ok(None)
+        );
+        assert_eq!(rt; seen(&mut station, 0x1000), Err(11));
+        assert_eq!(rt; sent(&mut station, 0x1000, &MESSAGE, Verdict::Bad), Err(18));
+        assert_eq!(rt; seen(&mut station, 0x1000), Err(11));
+        assert_eq!(rt;
+            sent(&mut station, 0x1000, &MESSAGE, Verdict::Good),
+            Ok(None)
+        );
+        assert_eq!(rt; seen(&mut station, 0x1000), Ok(0x11));
+        assert_eq!(rt; seen(&mut station, 0x1002), Err(8));
     }
 
     #[test]
-    fn of_another_station(rt: HostRuntime) {
+    fn of_another_station(rt: HostRuntime) -> Result<(), Fail> {
         let mut cells = [0u8; 16];
         let mut others = [0u8; 16];
         let mut station = Station::new(Row::new(&mut cells), 7);
         let mut other = Station::new(Row::new(&mut others), 8);
-        let handed = astray(&mut station, &mut other);
-        let _ = station.into_memory();
-        let _ = other.into_memory();
-        assert!(rt; handed == (15, 17));
+        assert_eq!(rt; astray(&mut station, &mut other)?, [Err(15), Err(17)]);
+        Ok(())
     }
 }

@@ -30,28 +30,17 @@ mod tests {
     }
 
     // Over a memory that holds 0x5a everywhere: ADP as it leaves, the data octets, and what the counter gained.
-    fn leaves(
-        rt: &impl Abort,
-        command: u8,
-        adp: u16,
-        out: u16,
-        data: u8,
-        gains: u16,
-    ) -> Result<(), Fail> {
+    fn leaves(rt: &impl Abort, command: u8, adp: u16, out: u16, data: u8, gains: u16) {
         let mut octets = frame_of(command, adp, 0x1000);
         frame_feed(&mut octets, ADDRESSES.station, ADDRESSES.alias, 0x5a);
         let mut expected = frame_of(command, out, 0x1000);
         let [low, high] = 0xffffu16.wrapping_add(gains).to_le_bytes();
-        expected[12] = data;
-        expected[13] = data;
-        expected[14] = low;
-        expected[15] = high;
-        assert!(rt; octets == expected);
-        Ok(())
+        expected[12..].copy_from_slice(&[data, data, low, high]);
+        assert_eq!(rt; octets, expected);
     }
 
     #[test]
-    fn addressed(rt: HostRuntime) -> Result<(), Fail> {
+    fn addressed(rt: HostRuntime) {
         let table = [
             (1, 0, 1, 0x5a, 1),
             (2, 0, 1, 0x0f, 1),
@@ -69,13 +58,12 @@ mod tests {
             (14, 0x1001, 0x1001, 0x5a, 1),
         ];
         for (command, adp, out, data, gains) in table {
-            leaves(&rt, command, adp, out, data, gains)?;
+            leaves(&rt, command, adp, out, data, gains);
         }
-        Ok(())
     }
 
     #[test]
-    fn not_addressed(rt: HostRuntime) -> Result<(), Fail> {
+    fn not_addressed(rt: HostRuntime) {
         let table = [
             (0, 0, 0, 0),
             (1, 0xffff, 0, 0),
@@ -90,9 +78,8 @@ mod tests {
             (0xff, 0xffff, 0xffff, 0),
         ];
         for (command, adp, out, gains) in table {
-            leaves(&rt, command, adp, out, 0x0f, gains)?;
+            leaves(&rt, command, adp, out, 0x0f, gains);
         }
-        Ok(())
     }
 
     fn idle(octet: u8) -> Accessed<()> {

@@ -2,6 +2,8 @@
 #![tactic(auto)]
 
 mod channel_cases;
+#[cfg(test)]
+mod common;
 pub mod driver;
 mod driver_cases;
 pub mod frame_cases;

@@ -57,11 +57,7 @@ mod tests {
         expected: &[Access],
     ) {
         let accesses = accesses_at(entities, direction, address);
-        let found = accesses.as_slice();
-        assert_eq!(rt; found.len(), expected.len());
-        for (access, wanted) in found.iter().zip(expected.iter()) {
-            assert_eq!(rt; *access, *wanted);
-        }
+        assert_eq!(rt; accesses.as_slice(), expected);
     }
 
     fn nothing(rt: &impl Abort, entities: &[Entity; 8], address: u64) {

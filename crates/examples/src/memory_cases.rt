@@ -26,7 +26,7 @@ mod tests {
     }
 
     // The size, the first and the last place, the first beyond, and the largest number.
-    fn borders<M: Memory>(rt: &impl Abort, memory: &mut M, size: u16) -> Result<(), Fail> {
+    fn borders<M: Memory>(rt: &impl Abort, memory: &mut M, size: u16) {
         assert_eq!(rt; memory.size(), size as usize);
         if size > 0 {
             keeps(rt, memory, 0, 0x12);
@@ -34,7 +34,6 @@ mod tests {
         }
         lacks(rt, memory, u32::from(size));
         lacks(rt, memory, u32::MAX);
-        Ok(())
     }
 
     #[test]
@@ -49,7 +48,7 @@ mod tests {
         ];
         for (cells, size) in table {
             let mut row = vec![in rt.alloc(); 0u8; cells]?;
-            borders(&rt, &mut Row::new(row.as_mut_slice()), size)?;
+            borders(&rt, &mut Row::new(row.as_mut_slice()), size);
         }
         Ok(())
     }
@@ -66,7 +65,7 @@ mod tests {
         ];
         for (cells, size) in table {
             let mut words = vec![in rt.alloc(); 0u16; cells]?;
-            borders(&rt, &mut Words::new(words.as_mut_slice()), size)?;
+            borders(&rt, &mut Words::new(words.as_mut_slice()), size);
         }
         Ok(())
     }
@@ -99,24 +98,23 @@ mod tests {
             let mut words = vec![in rt.alloc(); 0u16; words]?;
             let row = Row::new(row.as_mut_slice());
             let words = Words::new(words.as_mut_slice());
-            borders(&rt, &mut Joined::new(row, words), size)?;
+            borders(&rt, &mut Joined::new(row, words), size);
         }
         Ok(())
     }
 
     #[test]
-    fn join_of_joins(rt: HostRuntime) -> Result<(), Fail> {
+    fn join_of_joins(rt: HostRuntime) {
         let mut low = [1u8; 3];
         let mut middle = [0x0302u16; 2];
         let mut high = [4u8; 2];
         let inner = Joined::new(Words::new(&mut middle), Row::new(&mut high));
         let mut all = Joined::new(Row::new(&mut low), inner);
-        borders(&rt, &mut all, 9)?;
+        borders(&rt, &mut all, 9);
         let held = [0x12, 1, 1, 2, 3, 2, 3, 4, 0x34];
         for (place, octet) in held.iter().enumerate() {
             assert_eq!(rt; all.read(place as u32), Ok(*octet));
         }
-        Ok(())
     }
 
     #[test]

@@ -1,9 +1,10 @@
 -- Which frame runs after each call. Assumes nothing.
-use Rattle.std.proofs.Common.{◌≡◌, ℕ, Bool, true, false, cond, eqb, List, [], ◌∷◌, Some, None, Ok, Err, Option, Result, sym, refl, ap, ◌∙◌, arith}
+use Rattle.std.proofs.Common.{◌≡◌, ℕ, Bool, true, false, cond, eqb, List, [], ◌∷◌, Some, None, Ok, Err, Option, Result, sym, refl, ap, ◌∙◌}
 use Rattle.std.proofs.lemmas.Bool.{eq-eqb, cond-true}
 use Rattle.std.specs.Option.{option_map}
 use Rattle.memory.specs.Octets.{read_of, write_of}
 use Rattle.memory.specs.declared.fault.MemoryFault.{MemoryFault}
+use Rattle.access.specs.declared.Side.TheVariants.{Local}
 use Rattle.access.specs.declared.Direction.TheVariants.{Read, Write}
 use Rattle.bits.specs.declared.share.Share.{Share}
 use Rattle.channel.specs.declared.service.Service.{Service}
@@ -16,13 +17,13 @@ use Rattle.rules.specs.declared.data.Access.{Access}
 use Rattle.rules.specs.declared.data.Target.{Target}
 use Rattle.rules.specs.declared.data.Target.TheVariants.{Register, Free, Window}
 use Rattle.rules.specs.declared.data.Running.{Running}
-use Rattle.rules.specs.declared.data.Call.TheVariants.{Octet, End}
-use Rattle.rules.specs.Octets.{accesses_of, mine}
-use Rattle.rules.specs.Steps.{Station, Reply, Reads, Writes, service_at, asked_of, fetch_in, store_in, fetch_free, store_free, fetch_window, store_window, fetched, stored_by, reads, writes, read_one, read_all, write_one, write_all, reads_from, writes_from, octet_step, end_of, end_step, step, no_such_frame}
+use Rattle.rules.specs.declared.data.Call.TheVariants.{Octet, End, Read as ReadCall, Write as WriteCall}
+use Rattle.rules.specs.Octets.{plain, accesses_of, mine}
+use Rattle.rules.specs.Steps.{Station, Reads, Writes, service_at, asked_of, fetch_in, store_in, fetch_free, store_free, fetch_window, store_window, fetched, stored_by, reads, writes, read_one, read_all, write_one, write_all, reads_from, writes_from, octet_step, end_of, end_step, read_step, write_step, step, no_such_frame}
 use Rattle.station.specs.declared.token.Frame.{Frame}
 use Rattle.station.specs.declared.token.EndRefusal.{EndRefusal}
 use Rattle.station.specs.declared.token.EndRefusal.TheVariants.{NotThisFrame, Dropped}
-use Rattle.station.specs.Replies.{reply, ended_as, frame_in, SameFrame, Same, HandedBack}
+use Rattle.station.specs.Replies.{ended_as, frame_in, SameFrame, Same, HandedBack}
 
 -- the frame that runs at a station
 abbrev runs_at : Station → Option ℕ
@@ -65,11 +66,24 @@ target-written s x o (Ok (Register p)) = refl
 target-written s x o (Ok (Free p)) = free-written s x.share p o (read_of s.octets p)
 target-written s x o (Ok (Window n k)) = window-written s x.share n k _ o (service_at s.core.channels n)
 
-pub fetch_same : (s next : Station) (x : Access) (r : Result ℕ Fault) → reply next r ≡ reads s x → SameFrame s next
-fetch_same s next x r e = record { runs = ap (λ (t : Reply ℕ). runs_at t.after) e ∙ target-read s x (asked_of s x) }
+-- A LOCAL CALL leaves it.
+local-read : (t : Station) (r : Result ℕ Fault) → runs_at (read_step t r).0 ≡ runs_at t
+local-read t (Ok v) = refl
+local-read t (Err f) = refl
 
-pub store_same : (s next : Station) (x : Access) (o : ℕ) (r : Result (Unit {0}) Fault) → reply next r ≡ writes s x o → SameFrame s next
-store_same s next x o r e = record { runs = ap (λ (t : Reply (Unit {0})). runs_at t.after) e ∙ target-written s x o (asked_of s x) }
+local-written : (t : Station) (a o : ℕ) (r : Result (Unit {0}) Fault) → runs_at (write_step t a o r).0 ≡ runs_at t
+local-written t a o (Ok u) = refl
+local-written t a o (Err f) = refl
+
+pub read_same : (s next : Station) (a : ℕ) → next ≡ (step s (ReadCall a)).0 → SameFrame s next
+read_same s next a goes =
+    let x : Access = plain Local Read a in
+    record { runs = ap runs_at goes ∙ local-read (reads s x).after (reads s x).says ∙ target-read s x (asked_of s x) }
+
+pub write_same : (s next : Station) (a o : ℕ) → next ≡ (step s (WriteCall a o)).0 → SameFrame s next
+write_same s next a o goes =
+    let x : Access = plain Local Write a in
+    record { runs = ap runs_at goes ∙ local-written (writes s x o).after a o (writes s x o).says ∙ target-written s x o (asked_of s x) }
 
 -- ALL ACCESSES of an octet leave it.
 one-read : (x : Access) (t : Reads) (s : Station) (r : Result ℕ Fault) → (read_one x t s r).after ≡ s
@@ -93,15 +107,9 @@ all-written t o (x ∷ xs) =
     ∙ (ap runs_at (one_written t (writes t.after x o).after (writes t.after x o).says) ∙ target-written t.after x o (asked_of t.after x))
 
 -- AN OCTET leaves it.
-some_number : (a b : ℕ) → ◌≡◌ {A = Option ℕ} (Some a) (Some b) → a ≡ b
-some_number a b e = cc
-
-none-some : (n : ℕ) → ◌≡◌ {A = Option ℕ} None (Some n) → ⊥
-none-some n e = let z : ◌≡◌ {A = ℕ} 0 1 = cc in omega arith
-
 number_of : (number n : ℕ) (r : Option Running) → option_map (λ (f : Running). number) r ≡ Some n → number ≡ n
-number_of number n None e = absurd (none-some n e)
-number_of number n (Some f) e = some_number number n e
+number_of number n None e = cc
+number_of number n (Some f) e = cc
 
 octet-after : (s : Station) (o : ℕ) (number n : ℕ) (r : Option Running) → s.core.number ≡ number → s.core.running ≡ r → runs_at (octet_step s o (mine number n r)).0 ≡ runs_at s
 octet-after s o number n None e g = refl
@@ -128,14 +136,14 @@ octet_same s next n o goes = record { runs = ap runs_at goes ∙ octet-after s o
 
 -- AN END that hands a frame back is not that of the frame that runs.
 not-refused : (s : Station) (f : Running) (r : Result (Unit {0}) Reason) → no_such_frame ≡ (end_of s f r).1 → ⊥
-not-refused s f (Ok u) e = let z : ◌≡◌ {A = ℕ} 0 1 = cc in omega arith
-not-refused s f (Err w) e = let z : ◌≡◌ {A = ℕ} 0 1 = cc in omega arith
+not-refused s f (Ok u) e = cc
+not-refused s f (Err w) e = cc
 
 stray : (s : Station) (v : Verdict) (number n : ℕ) (r : Option Running) → no_such_frame ≡ (end_step s v (mine number n r)).1 → option_map (λ (f : Running). number) r ≡ Some n → ⊥
-stray s v number n None e i = none-some n i
+stray s v number n None e i = cc
 stray s v number n (Some f) e i =
     not-refused s f (kept f.progress v)
-    (e ∙ ap (λ (o : Option Running). (end_step s v o).1) (cond-true (eqb number n) (Some f) None (eq-eqb number n (some_number number n i))))
+    (e ∙ ap (λ (o : Option Running). (end_step s v o).1) (cond-true (eqb number n) (Some f) None (eq-eqb number n (number_of number n (Some f) i))))
 
 pub handed_back : (s : Station) (f : Frame) (v : Verdict) (r : Result (Option Fault) EndRefusal) → ended_as r ≡ (step s (End f.number v)).1 → Same f r → HandedBack s.core f r
 handed_back s f v (Ok e) h g = tt

@@ -2,6 +2,7 @@
 use Rattle.std.specs.Prelude.{◌≡◌, ℕ, ◌≢◌, Some, None, Ok, Err, Option, Result}
 use Rattle.std.specs.Option.{option_map}
 use Rattle.frame.specs.declared.outcome.Outcome.{Outcome}
+use Rattle.frame.specs.declared.outcome.Outcome.TheVariants.{NotWanted, Done, Refused}
 use Rattle.rules.specs.declared.fault.Fault.{Fault}
 use Rattle.rules.specs.declared.fault.Fault.TheVariants.{Station as Refuses}
 use Rattle.rules.specs.declared.fault.Reason.TheVariants.{NoSuchFrame}
@@ -22,6 +23,12 @@ reply s r = record { after = s; says = r }
 abbrev pub reads_so : Station → Gathered → Reads
 reads_so s g = record { after = s; gathered = g.gathered; shown = g.shown; outcome = g.outcome }
 
+-- the outcome so far, and that of one access more: the first refusal stands
+abbrev pub also : {X : Type 0} → Outcome X Fault → Outcome X Fault → Outcome X Fault
+also NotWanted y = y
+also (Done u) y = y
+also (Refused f) y = Refused f
+
 abbrev pub writes_so : Station → Outcome (Unit {0}) Fault → Writes
 writes_so s w = record { after = s; outcome = w }
 
@@ -33,6 +40,10 @@ begun_as (Err f) = Refuse f
 abbrev pub octet_as : Result OctetAnswer Fault → Answer
 octet_as (Ok a) = Forwards a.forwarded a.read a.write
 octet_as (Err f) = Refuse f
+
+abbrev pub kept_as : Result (Option Fault) Fault → Answer
+kept_as (Ok e) = Kept e
+kept_as (Err f) = Drops f
 
 abbrev pub ended_as : Result (Option Fault) EndRefusal → Answer
 ended_as (Ok e) = Kept e
@@ -76,12 +87,6 @@ abbrev pub Same : Frame → Result (Option Fault) EndRefusal → Type 0
 Same f (Ok e) = Unit {0}
 Same f (Err (NotThisFrame g)) = g ≡ f
 Same f (Err (Dropped e)) = Unit {0}
-
--- an end that was not handed back
-abbrev pub Spent : Result (Option Fault) EndRefusal → Type 0
-Spent (Ok e) = Unit {0}
-Spent (Err (NotThisFrame g)) = ⊥
-Spent (Err (Dropped e)) = Unit {0}
 
 -- the refusal of an end
 abbrev pub end_fault : EndRefusal → Fault

@@ -37,13 +37,12 @@ impl<M: Memory> Station<M> {
     pub fn new(memory: M, number: u16) -> Station<M>
         ensures { result.station ≡ new_station (M.octets memory) number }
     {
-        let channel = Channel { service: None };
         Station {
             core: Core {
                 number,
                 registers: no_registers(),
                 alias: 0,
-                channels: [channel; 8],
+                channels: [Channel { service: None }; 8],
                 running: None,
             },
             memory,
@@ -101,7 +100,7 @@ impl<M: Memory> Station<M> {
     }
 
     // The local side reads an octet.
-    #[tactic(auto, using(rules::proofs::After::promised))]
+    #[tactic(auto, using(rules::proofs::After::promised, crate::proofs::Frames::read_same))]
     pub fn read(&mut self, address: u32) -> Result<u8, Fault>
         ensures after { self.new.station ≡ (step self.old.station (ReadCall address)).0 }
         ensures answer { read_as result ≡ (step self.old.station (ReadCall address)).1 }
@@ -112,7 +111,7 @@ impl<M: Memory> Station<M> {
     }
 
     // The local side writes an octet.
-    #[tactic(auto, using(rules::proofs::After::promised))]
+    #[tactic(auto, using(rules::proofs::After::promised, crate::proofs::Frames::write_same))]
     pub fn write(&mut self, address: u32, octet: u8) -> Result<(), Fault>
         ensures after { self.new.station ≡ (step self.old.station (WriteCall address octet)).0 }
         ensures answer { written_as result ≡ (step self.old.station (WriteCall address octet)).1 }

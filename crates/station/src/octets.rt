@@ -3,8 +3,8 @@ ghost use Rattle.std.specs.Prelude.{◌≡◌, map};
 ghost use Rattle.access.specs.declared.Direction.TheVariants.{Read as Reading, Write as Writing};
 ghost use Rattle.core_steps.specs.Accessing.{accesses_in};
 ghost use Rattle.rules.specs.Octets.{plain, through_mapping};
-ghost use Rattle.rules.specs.Steps.{over, reads, writes, also_done, also_refused, read_one, write_one, reads_from, writes_from};
-ghost use Rattle.station.specs.Replies.{reads_so, writes_so};
+ghost use Rattle.rules.specs.Steps.{over, reads, writes, read_one, read_all, write_one, reads_from, writes_from};
+ghost use Rattle.station.specs.Replies.{also, reads_so, writes_so};
 
 use crate::calls::Station;
 use access::{Direction, Side};
@@ -47,23 +47,13 @@ fn through_mapping(direction: Direction, access: mapping::mapped::Access) -> Acc
     }
 }
 
-fn also_done<T: Drop>(so_far: Outcome<T, Fault>, value: T) -> Outcome<T, Fault>
-    ensures { result ≡ also_done so_far value }
+// The outcome so far, and one access more: the first refusal stands.
+fn also<T: Drop>(so_far: Outcome<T, Fault>, next: Outcome<T, Fault>) -> Outcome<T, Fault>
+    ensures { result ≡ also so_far next }
 {
     match so_far {
-        Outcome::NotWanted => Outcome::Done(value),
-        Outcome::Done(_) => Outcome::Done(value),
-        Outcome::Refused(fault) => Outcome::Refused(fault),
-    }
-}
-
-fn also_refused<T: Drop>(so_far: Outcome<T, Fault>, fault: Fault) -> Outcome<T, Fault>
-    ensures { result ≡ also_refused so_far fault }
-{
-    match so_far {
-        Outcome::NotWanted => Outcome::Refused(fault),
-        Outcome::Done(_) => Outcome::Refused(fault),
-        Outcome::Refused(first) => Outcome::Refused(first),
+        Outcome::Refused(_) => so_far,
+        _ => next,
     }
 }
 
@@ -71,17 +61,18 @@ impl<M: Memory> Station<M> {
     fn read_one(&mut self, access: Access, so_far: Gathered) -> Gathered
         ensures { reads_so self.new.station result ≡ read_one access (reads_so self.old.station so_far) (reads self.old.station access).after (reads self.old.station access).says }
     {
+        // A `match`: two closures that build the struct would be no plainer.
         match self.fetch(access) {
             Ok(octet) => {
                 let gathered = access.share.laid(so_far.gathered, octet);
                 Gathered {
                     gathered,
                     shown: access.share.laid(so_far.shown, octet),
-                    outcome: also_done(so_far.outcome, gathered),
+                    outcome: also(so_far.outcome, Outcome::Done(gathered)),
                 }
             }
             Err(fault) => Gathered {
-                outcome: also_refused(so_far.outcome, fault),
+                outcome: also(so_far.outcome, Outcome::Refused(fault)),
                 ..so_far
             },
         }
@@ -95,20 +86,14 @@ impl<M: Memory> Station<M> {
     ) -> Outcome<(), Fault>
         ensures { writes_so self.new.station result ≡ write_one (writes_so self.old.station so_far) (writes self.old.station access octet).after (writes self.old.station access octet).says }
     {
-        match self.store(access, octet) {
-            Ok(()) => also_done(so_far, ()),
-            Err(fault) => also_refused(so_far, fault),
-        }
+        let stored = self.store(access, octet);
+        also(so_far, stored.map_or_else(Outcome::Refused, Outcome::Done))
     }
 
-    fn read_mapped(&mut self, list: &[mapping::mapped::Access], octet: u8) -> Gathered
-        ensures { reads_so self.new.station result ≡ reads_from self.old.station octet (map (through_mapping Reading) list.now) }
+    fn read_mapped(&mut self, list: &[mapping::mapped::Access], mut so_far: Gathered) -> Gathered
+        ensures { reads_so self.new.station result ≡ read_all (reads_so self.old.station so_far) (map (through_mapping Reading) list.now) }
     {
-        let mut so_far = Gathered {
-            gathered: 0,
-            shown: octet,
-            outcome: Outcome::NotWanted,
-        };
+        // A loop: the closure of a fold would change the station, of which a proof knows nothing after it.
         for access in list {
             so_far = self.read_one(through_mapping(Direction::Read, *access), so_far);
         }
@@ -138,7 +123,7 @@ impl<M: Memory> Station<M> {
             OctetAccesses::One(address) => {
                 self.read_one(plain(Side::Master, Direction::Read, *address), none)
             }
-            OctetAccesses::Mapped(list) => self.read_mapped(list.as_slice(), octet),
+            OctetAccesses::Mapped(list) => self.read_mapped(list.as_slice(), none),
         }
     }
 

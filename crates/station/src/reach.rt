@@ -1,5 +1,5 @@
 // One access of the station: the questions before it, and then the read or the write.
-ghost use Rattle.std.specs.Prelude.{◌≡◌, Ok as Reached};
+ghost use Rattle.std.specs.Prelude.{◌≡◌, ◌-◌, Ok as Reached};
 ghost use Rattle.memory.specs.Octets.{read_of, write_of};
 ghost use Rattle.channel.specs.Services.{store_place, fetch_place};
 ghost use Rattle.rules.specs.Steps.{over, service_at, asked_of, register_at, fetch_in, store_in, fetch_free, store_free, fetch_window, store_window, fetched, stored_by, reads, writes};
@@ -83,27 +83,29 @@ impl<M: Memory> Station<M> {
         Ok(())
     }
 
-    fn fetch_window(&mut self, channel: u8, offset: u16, place: u32) -> Result<u8, Fault>
-        ensures { reply self.new.station result ≡ fetch_window self.old.station channel offset place (service_at self.old.station.core.channels channel) }
+    fn fetch_window(&mut self, access: Access, channel: u8, offset: u16) -> Result<u8, Fault>
+        ensures { reply self.new.station result ≡ fetch_window self.old.station channel offset (access.address - 0x1000) (service_at self.old.station.core.channels channel) }
     {
         match service_at(&self.core.channels, channel) {
-            None => self.fetch_free(place),
+            None => self.fetch_free(access.address.saturating_sub(0x1000)),
             Some(service) => self.fetch_in(channel, service, offset),
         }
     }
 
     fn store_window(
         &mut self,
-        share: Share,
+        access: Access,
         channel: u8,
         offset: u16,
-        place: u32,
         octet: u8,
     ) -> Result<(), Fault>
-        ensures { reply self.new.station result ≡ store_window self.old.station share channel offset place octet (service_at self.old.station.core.channels channel) }
+        ensures { reply self.new.station result ≡ store_window self.old.station access.share channel offset (access.address - 0x1000) octet (service_at self.old.station.core.channels channel) }
     {
         match service_at(&self.core.channels, channel) {
-            None => self.store_free(share, place, octet),
+            None => {
+                let place = access.address.saturating_sub(0x1000);
+                self.store_free(access.share, place, octet)
+            }
             Some(service) => self.store_in(channel, service, offset, octet),
         }
     }
@@ -114,9 +116,7 @@ impl<M: Memory> Station<M> {
         match target {
             Target::Register(register) => Ok(self.register_octet(register)),
             Target::Free { place } => self.fetch_free(place),
-            Target::Window { channel, offset } => {
-                self.fetch_window(channel, offset, access.address.saturating_sub(0x1000))
-            }
+            Target::Window { channel, offset } => self.fetch_window(access, channel, offset),
         }
     }
 
@@ -128,8 +128,7 @@ impl<M: Memory> Station<M> {
             Target::Register(_) => Ok(()),
             Target::Free { place } => self.store_free(access.share, place, octet),
             Target::Window { channel, offset } => {
-                let place = access.address.saturating_sub(0x1000);
-                self.store_window(access.share, channel, offset, place, octet)
+                self.store_window(access, channel, offset, octet)
             }
         }
     }

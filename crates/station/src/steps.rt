@@ -6,7 +6,7 @@ ghost use Rattle.access.specs.declared.Direction.TheVariants.{Write as Writing};
 ghost use Rattle.rules.specs.declared.data.Call.TheVariants.{Begin as BeginCall, Octet as OctetCall, End as EndCall, Read as ReadCall, Write as WriteCall};
 ghost use Rattle.rules.specs.declared.data.Answer.TheVariants.{Kept as Keeps};
 ghost use Rattle.rules.specs.Steps.{over, with_running, with_channels, dropped_channel, octet_answer, octet_given, kept_channels, kept_station, end_of, step};
-ghost use Rattle.station.specs.Replies.{begun_as, octet_as, ended_as, read_as, written_as, Minted, Begun, SameFrame, Same, Spent};
+ghost use Rattle.station.specs.Replies.{begun_as, octet_as, ended_as, kept_as, read_as, written_as, Minted, Begun, Same};
 
 use crate::calls::Station;
 use crate::octets::plain;
@@ -29,78 +29,49 @@ fn octet_answer(
 ) -> Result<OctetAnswer, Fault>
     ensures { octet_as result ≡ octet_answer accessed.read accessed.write leaves }
 {
-    match leaves {
-        Ok(forwarded) => Ok(OctetAnswer {
-            forwarded,
-            read: accessed.read,
-            write: accessed.write,
-        }),
-        Err(reason) => Err(refused(Reason::Frame(reason), 0)),
-    }
+    let forwarded = leaves.map_err(|reason| refused(Reason::Frame(reason), 0))?;
+    Ok(OctetAnswer {
+        forwarded,
+        read: accessed.read,
+        write: accessed.write,
+    })
 }
 
 impl<M: Memory> Station<M> {
     // A frame begins, unless one runs.
     pub(crate) fn begin_frame(&mut self) -> Result<Frame, Fault>
-        ensures after { self.new.station ≡ (step self.old.station BeginCall).0 }
-        ensures answer { begun_as result ≡ (step self.old.station BeginCall).1 }
+        ensures step { (self.new.station, begun_as result) ≡ step self.old.station BeginCall }
         ensures minted { Minted self.old.station.core.number result }
         ensures runs { Begun self.new.station.core result }
     {
-        match self.core.running {
-            Some(_) => Err(refused(Reason::FrameRuns, 0)),
-            None => {
-                self.core.running = Some(begun_running(&self.core.registers));
-                Ok(Frame {
-                    number: self.core.number,
-                })
-            }
+        if self.core.running.is_some() {
+            return Err(refused(Reason::FrameRuns, 0));
         }
+        self.core.running = Some(begun_running(&self.core.registers));
+        Ok(Frame {
+            number: self.core.number,
+        })
     }
 
     // The local side reads an octet.
     pub(crate) fn read_local(&mut self, address: u32) -> Result<u8, Fault>
-        ensures after { self.new.station ≡ (step self.old.station (ReadCall address)).0 }
-        ensures answer { read_as result ≡ (step self.old.station (ReadCall address)).1 }
-        ensures frame { SameFrame self.old.station self.new.station }
+        ensures { (self.new.station, read_as result) ≡ step self.old.station (ReadCall address) }
     {
-        let octet = self.fetch(plain(Side::Local, Direction::Read, address))?;
-        Ok(octet)
+        self.fetch(plain(Side::Local, Direction::Read, address))
     }
 
     // The local side writes an octet; into the alias it holds at once.
     pub(crate) fn write_local(&mut self, address: u32, octet: u8) -> Result<(), Fault>
-        ensures after { self.new.station ≡ (step self.old.station (WriteCall address octet)).0 }
-        ensures answer { written_as result ≡ (step self.old.station (WriteCall address octet)).1 }
-        ensures frame { SameFrame self.old.station self.new.station }
+        ensures { (self.new.station, written_as result) ≡ step self.old.station (WriteCall address octet) }
     {
         self.store(plain(Side::Local, Direction::Write, address), octet)?;
         self.core.alias = with_alias(self.core.alias, register_at(address), octet);
         Ok(())
     }
 
-    // The running frame moves on.
-    fn octet_taken(
-        &mut self,
-        running: Running,
-        octet: u8,
-        addresses: Addresses,
-        writes: &OctetAccesses,
-        accessed: Accessed<Fault>,
-    ) -> Result<OctetAnswer, Fault>
-        ensures after { self.new.station ≡ over (with_running self.old.station.core (Runs (stepped_running running octet addresses (accesses_in Writing writes.now) accessed.read accessed.write))) self.old.station.octets }
-        ensures answer { octet_as result ≡ octet_answer accessed.read accessed.write (answered running.progress octet accessed.laid) }
-    {
-        let mut next = running;
-        let leaves = give(&mut next, octet, addresses, writes, &accessed);
-        self.core.running = Some(next);
-        octet_answer(leaves, accessed)
-    }
-
     // Read, then write, then the frame moves on.
     fn octet_given(&mut self, running: Running, octet: u8) -> Result<OctetAnswer, Fault>
-        ensures after { self.new.station ≡ (octet_given self.old.station running octet).0 }
-        ensures answer { octet_as result ≡ (octet_given self.old.station running octet).1 }
+        ensures { (self.new.station, octet_as result) ≡ octet_given self.old.station running octet }
     {
         let wanted = running.progress.wanted();
         let addresses = Addresses {
@@ -116,64 +87,57 @@ impl<M: Memory> Station<M> {
             write,
             laid: read.shown,
         };
-        self.octet_taken(running, octet, addresses, &writes, accessed)
+        let mut next = running;
+        let leaves = give(&mut next, octet, addresses, &writes, &accessed);
+        self.core.running = Some(next);
+        octet_answer(leaves, accessed)
     }
 
     // The next octet of a frame.
     pub(crate) fn octet_of_frame(&mut self, frame: &Frame, octet: u8) -> Result<OctetAnswer, Fault>
-        ensures after { self.new.station ≡ (step self.old.station (OctetCall frame.now.number octet)).0 }
-        ensures answer { octet_as result ≡ (step self.old.station (OctetCall frame.now.number octet)).1 }
+        ensures { (self.new.station, octet_as result) ≡ step self.old.station (OctetCall frame.now.number octet) }
     {
-        match mine(&self.core, frame.number) {
-            None => Err(refused(Reason::NoSuchFrame, 0)),
-            Some(running) => self.octet_given(running, octet),
-        }
+        let running = mine(&self.core, frame.number).ok_or(refused(Reason::NoSuchFrame, 0))?;
+        self.octet_given(running, octet)
     }
 
     // What the frame accessed is cancelled.
     fn cancel(&mut self)
         ensures { self.new.station ≡ over (with_running (with_channels self.old.station.core (map dropped_channel self.old.station.core.channels)) NoFrame) self.old.station.octets }
     {
-        let channels = dropped_channels(&self.core.channels);
-        self.core.channels = channels;
+        self.core.channels = dropped_channels(&self.core.channels);
         self.core.running = None;
     }
 
     // In order: waiting transactions complete, waiting registers are set, services end, enablings are judged. The lowest refused enabling.
     fn keep(&mut self, registers: Registers) -> Option<Fault>
-        ensures after { self.new.station ≡ (kept_station self.old.station registers (kept_channels (length self.old.station.octets) registers self.old.station.core.channels)).0 }
-        ensures answer { Keeps result ≡ (kept_station self.old.station registers (kept_channels (length self.old.station.octets) registers self.old.station.core.channels)).1 }
+        ensures { (self.new.station, Keeps result) ≡ kept_station self.old.station registers (kept_channels (length self.old.station.octets) registers self.old.station.core.channels) }
     {
         let Enabling {
             channels,
             settings,
             denied,
         } = kept_channels(self.memory.size(), &registers, &self.core.channels);
-        let entities = registers.entities;
         self.core = Core {
-            number: self.core.number,
             registers: Registers {
-                address: registers.address,
-                entities,
                 settings,
+                ..registers
             },
-            alias: self.core.alias,
             channels,
             running: None,
+            ..self.core
         };
         denied
     }
 
-    fn end_of(&mut self, running: Running, verdict: Verdict) -> Result<Option<Fault>, EndRefusal>
-        ensures after { self.new.station ≡ (end_of self.old.station running (kept running.progress verdict)).0 }
-        ensures answer { ended_as result ≡ (end_of self.old.station running (kept running.progress verdict)).1 }
-        ensures spent { Spent result }
+    fn end_of(&mut self, running: Running, verdict: Verdict) -> Result<Option<Fault>, Fault>
+        ensures { (self.new.station, kept_as result) ≡ end_of self.old.station running (kept running.progress verdict) }
     {
         match running.progress.end(verdict) {
             Ok(()) => Ok(self.keep(running.waiting)),
             Err(reason) => {
                 self.cancel();
-                Err(EndRefusal::Dropped(refused(Reason::Frame(reason), 0)))
+                Err(refused(Reason::Frame(reason), 0))
             }
         }
     }
@@ -184,17 +148,13 @@ impl<M: Memory> Station<M> {
         frame: Frame,
         verdict: Verdict,
     ) -> Result<Option<Fault>, EndRefusal>
-        ensures after { self.new.station ≡ (step self.old.station (EndCall frame.number verdict)).0 }
-        ensures answer { ended_as result ≡ (step self.old.station (EndCall frame.number verdict)).1 }
+        ensures step { (self.new.station, ended_as result) ≡ step self.old.station (EndCall frame.number verdict) }
         ensures back { Same frame result }
     {
-        let handed = frame.number;
-        match mine(&self.core, handed) {
-            None => Err(EndRefusal::NotThisFrame(frame)),
-            Some(running) => {
-                let Frame { number: _ } = frame;
-                self.end_of(running, verdict)
-            }
-        }
+        let Some(running) = mine(&self.core, frame.number) else {
+            return Err(EndRefusal::NotThisFrame(frame));
+        };
+        let Frame { number: _ } = frame;
+        self.end_of(running, verdict).map_err(EndRefusal::Dropped)
     }
 }
