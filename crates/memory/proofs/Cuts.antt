@@ -23,13 +23,5 @@ module _ (n : ℕ) (xs : List ℕ) where
         same_lists _ _ (simp (length-take, length-set) (omega arith))
         (λ k d p. let below : i < n = omega (arith, length_counted) in grind (arith, places, get_or-set_same, cases_eq k i))
 
--- the same of the octets of a row
-module _ (xs : List ℕ) where
-  pub length_row : length (counted 61440 xs) ≡ min (length xs) 61440
-  length_row = length_counted 61440 xs
-
-  pub row_read : (i : ℕ) → i < length (counted 61440 xs) → read_of (counted 61440 xs) i ≡ Ok (get_or xs i 0)
-  row_read i counts = sym (counted_read 61440 xs i counts)
-
-  pub row_set : (i x : ℕ) → i < length (counted 61440 xs) → set (counted 61440 xs) i x ≡ counted 61440 (set xs i x)
-  row_set i x counts = sym (counted_set 61440 xs i counts x)
+pub length_row : (xs : List ℕ) → length (counted 61440 xs) ≡ min (length xs) 61440
+length_row xs = length_counted 61440 xs
