@@ -7,7 +7,6 @@ use crate::fault::MemoryFault;
 use crate::{LIMIT, Memory, within};
 
 // A place of the first or of the second memory.
-#[derive(Clone, Copy)]
 enum Part {
     First(u32),
     Second(u32),
