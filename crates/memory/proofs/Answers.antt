@@ -11,11 +11,11 @@ passed_on (Ok x) f i same is = absurd same
 passed_on (Err e) f i same is = ap Err (same ∙ is)
 
 module _ (xs : List ℕ) (i : ℕ) where
-  pub read_inside : i < length xs → Ok (get_or xs i 0) ≡ read_of xs i
-  read_inside h = sym (cond-true (ltb i (length xs)) _ _ (lt-ltb i (length xs) h))
+  pub read-inside : i < length xs → read_of xs i ≡ Ok (get_or xs i 0)
+  read-inside h = cond-true (ltb i (length xs)) _ _ (lt-ltb i (length xs) h)
 
-  pub write_inside : i < length xs → Ok tt ≡ write_of xs i
-  write_inside h = sym (cond-true (ltb i (length xs)) _ _ (lt-ltb i (length xs) h))
+  pub write-inside : i < length xs → write_of xs i ≡ Ok tt
+  write-inside h = cond-true (ltb i (length xs)) _ _ (lt-ltb i (length xs) h)
 
   module _ (past : length xs ≤ i) (f : MemoryFault) where
     pub read_refused : (r : Result ℕ MemoryFault) → IsErrAnd r (λ e. e ≡ f) → f ≡ outside i → r ≡ read_of xs i

@@ -4,7 +4,7 @@ use Rattle.std.proofs.lemmas.List.{length-take, length-set, get_or-take, get_or-
 use Rattle.std.proofs.lemmas.Bool.{cases_eq}
 use Rattle.memory.specs.Octets.{read_of}
 use Rattle.memory.specs.Cuts.{counted}
-use Rattle.memory.proofs.Answers.{read_inside}
+use Rattle.memory.proofs.Answers.{read-inside}
 
 module _ (n : ℕ) (xs : List ℕ) where
   pub length_counted : length (counted n xs) ≡ min (length xs) n
@@ -16,7 +16,7 @@ module _ (n : ℕ) (xs : List ℕ) where
     counted-get = let below : i < n = omega (arith, length_counted) in get_or-take n xs i 0 below
 
     pub counted_read : Ok (get_or xs i 0) ≡ read_of (counted n xs) i
-    counted_read = ap Ok (sym counted-get) ∙ read_inside (counted n xs) i counts
+    counted_read = sym (read-inside (counted n xs) i counts ∙ ap Ok counted-get)
 
     pub counted_set : (x : ℕ) → counted n (set xs i x) ≡ set (counted n xs) i x
     counted_set x =

@@ -4,7 +4,7 @@ use Rattle.memory.specs.Octets.{read_of}
 use Rattle.memory.specs.Halves.{halves, half_at, with_half, length-halves}
 use Rattle.memory.specs.Cuts.{counted}
 use Rattle.memory.proofs.Cuts.{length_counted, counted-get, counted_set}
-use Rattle.memory.proofs.Answers.{read_inside}
+use Rattle.memory.proofs.Answers.{read-inside}
 
 -- two places further is one word further
 word_more : (i : ℕ) → suc (suc i) / 2 ≡ suc (i / 2)
@@ -46,7 +46,7 @@ module _ (ws : List ℕ) where
     pub word_read : (x : ℕ) → x ≡ half_at (get_or ws (i / 2) 0) i → Ok x ≡ read_of (halves (counted 30720 ws)) i
     word_read x is =
         ap Ok (is ∙ ap (λ w. half_at w i) (sym same_word) ∙ sym (read-half (counted 30720 ws) i))
-        ∙ read_inside (halves (counted 30720 ws)) i counts
+        ∙ sym (read-inside (halves (counted 30720 ws)) i counts)
 
     pub word_set : (w v : ℕ) → v < 256 → w ≡ with_half (get_or ws (i / 2) 0) i v → halves (counted 30720 (set ws (i / 2) w)) ≡ set (halves (counted 30720 ws)) i v
     word_set w v h is =

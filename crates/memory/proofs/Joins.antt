@@ -3,7 +3,7 @@ use Rattle.std.proofs.Common.{◌≡◌, ℕ, ◌+◌, ◌-◌, ◌<◌, ◌≤�
 use Rattle.std.proofs.lemmas.List.{length-append, get_or_append_left, get_or-append_right, set-append_left, set-append_right}
 use Rattle.memory.specs.Octets.{read_of, write_of}
 use Rattle.memory.specs.Cuts.{joined}
-use Rattle.memory.proofs.Answers.{read_inside, write_inside}
+use Rattle.memory.proofs.Answers.{read-inside, write-inside}
 use Rattle.memory.proofs.Cuts.{length_counted, counted_set, counted_read}
 
 module _ (xs ys : List ℕ) where
@@ -18,11 +18,11 @@ module _ (xs ys : List ℕ) where
 
       pub read_first : read_of xs j ≡ read_of (joined xs ys) i
       read_first =
-          ap (read_of xs) at ∙ sym (read_inside xs i h) ∙ ap Ok (sym (get_or_append_left xs ys 0 i h))
+          ap (read_of xs) at ∙ read-inside xs i h ∙ ap Ok (sym (get_or_append_left xs ys 0 i h))
           ∙ counted_read 61440 (xs ++ ys) i counts-first
 
       pub write_first : write_of xs j ≡ write_of (joined xs ys) i
-      write_first = ap (write_of xs) at ∙ sym (write_inside xs i h) ∙ write_inside (joined xs ys) i counts-first
+      write_first = ap (write_of xs) at ∙ write-inside xs i h ∙ sym (write-inside (joined xs ys) i counts-first)
 
       pub set_first : (x : ℕ) → joined (set xs j x) ys ≡ set (joined xs ys) i x
       set_first x =
@@ -38,11 +38,11 @@ module _ (xs ys : List ℕ) where
 
       pub read_second : read_of ys j ≡ read_of (joined xs ys) i
       read_second =
-          ap (read_of ys) at ∙ sym (read_inside ys (i - length xs) in-second)
+          ap (read_of ys) at ∙ read-inside ys (i - length xs) in-second
           ∙ ap Ok (sym (get_or-append_right xs ys (length xs) i 0 refl follows)) ∙ counted_read 61440 (xs ++ ys) i counts-second
 
       pub write_second : write_of ys j ≡ write_of (joined xs ys) i
-      write_second = ap (write_of ys) at ∙ sym (write_inside ys (i - length xs) in-second) ∙ write_inside (joined xs ys) i counts-second
+      write_second = ap (write_of ys) at ∙ write-inside ys (i - length xs) in-second ∙ sym (write-inside (joined xs ys) i counts-second)
 
       pub set_second : (x : ℕ) → joined xs (set ys j x) ≡ set (joined xs ys) i x
       set_second x =

@@ -1,6 +1,6 @@
-use Rattle.std.proofs.Common.{arith}
+use Rattle.std.proofs.Common.{sym, arith}
 use Rattle.memory.specs.Cuts.{counted}
-use Rattle.memory.proofs.Answers.{write_inside, write_refused, refused_set}
+use Rattle.memory.proofs.Answers.{write-inside, write_refused, refused_set}
 use Rattle.memory.proofs.Cuts.{counted_set}
 use Rattle.memory.proofs.row.RowMemory.write.Goals as goal
 
@@ -12,4 +12,4 @@ returns-in_err-within c =
     }
 
 pub returns : goal.returns
-returns c = record { value = write_inside _ c.args.place (omega (arith, c.in_ok-within.ensures)); after = counted_set 61440 c.args.self.now.cells.now c.args.place (omega (arith, c.in_ok-within.ensures)) _ }
+returns c = record { value = sym (write-inside _ c.args.place (omega (arith, c.in_ok-within.ensures))); after = counted_set 61440 c.args.self.now.cells.now c.args.place (omega (arith, c.in_ok-within.ensures)) _ }

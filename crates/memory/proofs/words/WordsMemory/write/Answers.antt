@@ -1,7 +1,7 @@
-use Rattle.std.proofs.Common.{arith}
+use Rattle.std.proofs.Common.{sym, arith}
 use Rattle.memory.specs.Cuts.{counted}
 use Rattle.memory.specs.Halves.{halves}
-use Rattle.memory.proofs.Answers.{write_inside, write_refused, refused_set}
+use Rattle.memory.proofs.Answers.{write-inside, write_refused, refused_set}
 use Rattle.memory.proofs.Halves.{word_set}
 use Rattle.memory.proofs.words.WordsMemory.write.Goals as goal
 
@@ -13,4 +13,4 @@ returns-in_err-within c =
     }
 
 pub returns : goal.returns
-returns c = record { value = write_inside _ c.args.place (omega (arith, c.in_ok-within.ensures)); after = word_set c.args.self.now.cells.now c.args.place (omega (arith, c.in_ok-within.ensures)) _ _ c.ranges.octet.fits c.with_half.ensures }
+returns c = record { value = sym (write-inside _ c.args.place (omega (arith, c.in_ok-within.ensures))); after = word_set c.args.self.now.cells.now c.args.place (omega (arith, c.in_ok-within.ensures)) _ _ c.ranges.octet.fits c.with_half.ensures }
