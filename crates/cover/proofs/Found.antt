@@ -1,31 +1,12 @@
--- The law of the lowest covering entry, and the steps of its search.
-use Rattle.std.proofs.Common.{◌≡◌, ℕ, zero, suc, ◌+◌, ◌<◌, ◌≤◌, true, false, cond, List, [], ◌∷◌, length, get_or, drop, Some, None, Option, sym, ap, ◌∙◌, subst, arith, MatchOption}
+-- The law of the lowest covering entry.
+use Rattle.std.proofs.Common.{◌≡◌, ℕ, zero, suc, ◌+◌, ◌<◌, ◌≤◌, true, false, List, [], ◌∷◌, length, Some, None, Option, sym, ◌∙◌, subst, arith, MatchOption}
 use Rattle.std.specs.List.{HoldsAt, AllWithin, position_from}
 use Rattle.std.proofs.lemmas.Bool.{and_parts, and_from, le-leb, leb-true, false≢true, cond_both}
-use Rattle.std.proofs.lemmas.List.{at_drop_more, at_drop_all}
 use Rattle.cover.specs.Lowest.{covers, Covers, Lowest}
 
 module _ {E : Type 0} (low high : E → ℕ) (place : ℕ) where
   pub covers-true : (e : E) → low e ≤ place → place ≤ high e → covers low high place e ≡ true
   covers-true e l h = and_from _ _ (le-leb (low e) place l) (le-leb place (high e) h)
-
-  -- one entry more, which does not cover
-  pub passed : (es : List E) (i : ℕ) (e : E) → i < length es → e ≡ get_or es i e → covers low high place e ≡ false → position_from (covers low high place) i (drop i es) ≡ position_from (covers low high place) (i + 1) (drop (i + 1) es)
-  passed es i e within read passes =
-      let step : position_from (covers low high place) i (drop i es) ≡ cond (covers low high place (get_or es i e)) (Some i) (position_from (covers low high place) (i + 1) (drop (i + 1) es)) = at_drop_more (position_from (covers low high place) i) es i e within in
-      let not-here : covers low high place (get_or es i e) ≡ false = ap (covers low high place) (sym read) ∙ passes in
-      step ∙ ap (λ b. cond b (Some i) (position_from (covers low high place) (i + 1) (drop (i + 1) es))) not-here
-
-  -- the entry that covers
-  pub met : (es : List E) (i : ℕ) (e : E) → i < length es → e ≡ get_or es i e → covers low high place e ≡ true → position_from (covers low high place) i (drop i es) ≡ Some i
-  met es i e within read stops =
-      let step : position_from (covers low high place) i (drop i es) ≡ cond (covers low high place (get_or es i e)) (Some i) (position_from (covers low high place) (i + 1) (drop (i + 1) es)) = at_drop_more (position_from (covers low high place) i) es i e within in
-      let here : covers low high place (get_or es i e) ≡ true = ap (covers low high place) (sym read) ∙ stops in
-      step ∙ ap (λ b. cond b (Some i) (position_from (covers low high place) (i + 1) (drop (i + 1) es))) here
-
-  -- the end of the list
-  pub none_left : (es : List E) (i : ℕ) → length es ≤ i → position_from (covers low high place) i (drop i es) ≡ None
-  none_left es i past = at_drop_all (position_from (covers low high place) i) es i past
 
   none_here : (e : E) → covers low high place e ≡ false → Covers low high place e → ⊥
   none_here e passes (l, h) = false≢true (sym passes ∙ covers-true e l h)

@@ -30,6 +30,7 @@ pub fn lowest_covering<E: Span>(entries: &[E], place: u64) -> Option<usize>
     ensures value { result ≡ position_from (covers E.low E.high place) 0 entries.now }
     ensures lowest { Lowest E.low E.high place entries.now result }
 {
+    // A loop with the index, and no `position`: the form is a wanted one (docs/DECISIONS.md).
     for (i, entry) in entries.iter().enumerate() {
         if reaches(entry, place) {
             return Some(i);

@@ -87,5 +87,5 @@ module _ (e : Entity) (i v : ℕ) (octet : v < 256) where
       (λ h. (λ k. bit (unwritten (eqb i 11) (eqb (v % 2) 1) e.reads (past 11 j apart h) k) + 2 * bit (unwritten (eqb i 11) (eqb (v / 2 % 2) 1) e.writes (past 11 j apart h) k)))
       (λ h. ap bit (unwritten (eqb i 12) (eqb (v % 2) 1) e.active (past 12 j apart h)))
 
-pub entities_read_back : EntitiesReadBack
-entities_read_back e i v octet = record { same = same e i v octet; other = other e i v octet }
+pub entities-read-back : EntitiesReadBack
+entities-read-back e i v octet = record { same = same e i v octet; other = other e i v octet }

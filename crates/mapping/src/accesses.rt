@@ -58,7 +58,7 @@ impl Entity {
     }
 }
 
-// An entity is searched by the logical octets that it lies in.
+// An entity is searched by the logical octets that it lies in; one without octets ends (0) before it begins (1), and so lies in none.
 impl Span for Entity {
     ghost low = { λ e. first_octet e };
 

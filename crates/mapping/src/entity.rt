@@ -70,7 +70,6 @@ impl Entity {
 }
 
 // What is written to a register octet is read back from it, masked to the bits that are kept, and every other octet stays.
-#[tactic(auto, using(crate::proofs::Registers::entities_read_back))]
 pub fn entities_read_back()
     ensures { EntitiesReadBack }
 {}

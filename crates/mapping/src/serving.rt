@@ -69,6 +69,7 @@ impl Entity {
         ensures { result ≡ bits_covered direction self.now }
     {
         if !(self.active && self.allows(direction) && self.length > 0) {
+            // None is a range that ends before it begins: an `Option` beside it would say none in two ways.
             return BitRange { first: 1, last: 0 };
         }
         let first = u64::from(self.logical);

@@ -4,7 +4,7 @@ use Rattle.std.proofs.lemmas.List.{length-take, length-set, get_or-take, get_or-
 use Rattle.std.proofs.lemmas.Bool.{cases_eq}
 use Rattle.memory.specs.Octets.{read_of}
 use Rattle.memory.specs.Cuts.{counted}
-use Rattle.memory.proofs.Answers.{read_inside}
+use Rattle.memory.proofs.Answers.{read-inside}
 
 module _ (n : ℕ) (xs : List ℕ) where
   pub length_counted : length (counted n xs) ≡ min (length xs) n
@@ -16,20 +16,12 @@ module _ (n : ℕ) (xs : List ℕ) where
     counted-get = let below : i < n = omega (arith, length_counted) in get_or-take n xs i 0 below
 
     pub counted_read : Ok (get_or xs i 0) ≡ read_of (counted n xs) i
-    counted_read = ap Ok (sym counted-get) ∙ read_inside (counted n xs) i counts
+    counted_read = sym (read-inside (counted n xs) i counts ∙ ap Ok counted-get)
 
     pub counted_set : (x : ℕ) → counted n (set xs i x) ≡ set (counted n xs) i x
     counted_set x =
         same_lists _ _ (simp (length-take, length-set) (omega arith))
         (λ k d p. let below : i < n = omega (arith, length_counted) in grind (arith, places, get_or-set_same, cases_eq k i))
 
--- the same of the octets of a row
-module _ (xs : List ℕ) where
-  pub length_row : length (counted 61440 xs) ≡ min (length xs) 61440
-  length_row = length_counted 61440 xs
-
-  pub row_read : (i : ℕ) → i < length (counted 61440 xs) → read_of (counted 61440 xs) i ≡ Ok (get_or xs i 0)
-  row_read i counts = sym (counted_read 61440 xs i counts)
-
-  pub row_set : (i x : ℕ) → i < length (counted 61440 xs) → set (counted 61440 xs) i x ≡ counted 61440 (set xs i x)
-  row_set i x counts = sym (counted_set 61440 xs i counts x)
+pub length_row : (xs : List ℕ) → length (counted 61440 xs) ≡ min (length xs) 61440
+length_row xs = length_counted 61440 xs

@@ -1,10 +1,10 @@
 -- Reading and replacing a half of a word in the list of halves. Assumes nothing.
-use Rattle.std.proofs.Common.{◌≡◌, ℕ, zero, suc, ◌+◌, ◌*◌, ◌/◌, ◌%◌, ◌<◌, ◌≤◌, min, List, [], ◌∷◌, length, get_or, set, Ok, Err, sym, refl, ap, ◌∙◌, arith}
+use Rattle.std.proofs.Common.{◌≡◌, ℕ, zero, suc, ◌+◌, ◌*◌, ◌/◌, ◌%◌, ◌<◌, min, List, [], ◌∷◌, length, get_or, set, Ok, sym, refl, ap, ◌∙◌, arith}
 use Rattle.memory.specs.Octets.{read_of}
 use Rattle.memory.specs.Halves.{halves, half_at, with_half, length-halves}
 use Rattle.memory.specs.Cuts.{counted}
 use Rattle.memory.proofs.Cuts.{length_counted, counted-get, counted_set}
-use Rattle.memory.proofs.Answers.{read_inside}
+use Rattle.memory.proofs.Answers.{read-inside}
 
 -- two places further is one word further
 word_more : (i : ℕ) → suc (suc i) / 2 ≡ suc (i / 2)
@@ -43,11 +43,12 @@ module _ (ws : List ℕ) where
     same_word : get_or (counted 30720 ws) (i / 2) 0 ≡ get_or ws (i / 2) 0
     same_word = counted-get 30720 ws (i / 2) within
 
-    pub word_read : read_of (halves (counted 30720 ws)) i ≡ Ok (half_at (get_or ws (i / 2) 0) i)
-    word_read =
-        sym (read_inside (halves (counted 30720 ws)) i counts) ∙ ap Ok (read-half (counted 30720 ws) i ∙ ap (λ w. half_at w i) same_word)
+    pub word_read : (x : ℕ) → x ≡ half_at (get_or ws (i / 2) 0) i → Ok x ≡ read_of (halves (counted 30720 ws)) i
+    word_read x is =
+        ap Ok (is ∙ ap (λ w. half_at w i) (sym same_word) ∙ sym (read-half (counted 30720 ws) i))
+        ∙ sym (read-inside (halves (counted 30720 ws)) i counts)
 
-    pub word_set : (v : ℕ) → v < 256 → set (halves (counted 30720 ws)) i v ≡ halves (counted 30720 (set ws (i / 2) (with_half (get_or ws (i / 2) 0) i v)))
-    word_set v h =
-        sym (write-half (counted 30720 ws) i v h)
-        ∙ ap (λ w. halves (set (counted 30720 ws) (i / 2) (with_half w i v))) same_word ∙ ap halves (sym (counted_set 30720 ws (i / 2) within (with_half (get_or ws (i / 2) 0) i v)))
+    pub word_set : (w v : ℕ) → v < 256 → w ≡ with_half (get_or ws (i / 2) 0) i v → halves (counted 30720 (set ws (i / 2) w)) ≡ set (halves (counted 30720 ws)) i v
+    word_set w v h is =
+        let same : w ≡ with_half (get_or (counted 30720 ws) (i / 2) 0) i v = is ∙ ap (λ x. with_half x i v) (sym same_word) in
+        ap halves (counted_set 30720 ws (i / 2) within w ∙ ap (set (counted 30720 ws) (i / 2)) same) ∙ write-half (counted 30720 ws) i v h

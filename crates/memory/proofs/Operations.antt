@@ -1,11 +1,11 @@
 -- Reads after any list of operations. Assumes nothing.
-use Rattle.std.proofs.Common.{◌≡◌, ℕ, ◌<◌, ◌≤◌, Bool, true, false, cond, eqb, ltb, List, [], ◌∷◌, length, get_or, drop, set, Ok, Err, sym, refl, ap, ◌∙◌, arith}
+use Rattle.std.proofs.Common.{◌≡◌, ℕ, ◌<◌, ◌≤◌, Bool, true, false, cond, eqb, ltb, List, [], ◌∷◌, length, get_or, drop, set, Ok, Err, refl, ap, ◌∙◌, arith}
 use Rattle.std.proofs.lemmas.List.{length-set, get_or-set_same, get_or-set_other, at_drop_all}
 use Rattle.std.proofs.lemmas.Bool.{cases_eq, ltb-true}
 use Rattle.memory.specs.declared.operation.Operation.{Operation}
 use Rattle.memory.specs.declared.operation.Operation.TheVariants.{Read, Write}
 use Rattle.memory.specs.Octets.{read_of, outside}
-use Rattle.memory.specs.Operations.{performed, performed_all, latest_stored, read_after}
+use Rattle.memory.specs.Operations.{performed_all, latest_stored, read_after}
 
 -- a list keeps its length
 pub length-performed : (xs : List ℕ) (os : List Operation) → length (performed_all xs os) ≡ length xs

@@ -7,7 +7,6 @@ use crate::fault::MemoryFault;
 use crate::{LIMIT, Memory, within};
 
 // A place of the first or of the second memory.
-#[derive(Clone, Copy)]
 enum Part {
     First(u32),
     Second(u32),
@@ -53,7 +52,6 @@ impl<F: Memory, S: Memory> Memory for Joined<F, S> {
         (self.first.size() + self.second.size()).min(LIMIT)
     }
 
-    #[tactic(auto, using(crate::proofs::Joins::read_first, crate::proofs::Joins::read_second, crate::proofs::Joins::length_joined, crate::proofs::Answers::read_refused))]
     fn read(&mut self, place: u32) -> Result<u8, MemoryFault> {
         match self.part(place)? {
             Part::First(at) => self.first.read(at),
@@ -61,7 +59,6 @@ impl<F: Memory, S: Memory> Memory for Joined<F, S> {
         }
     }
 
-    #[tactic(auto, using(crate::proofs::Joins::write_first, crate::proofs::Joins::write_second, crate::proofs::Joins::set_first, crate::proofs::Joins::set_second, crate::proofs::Joins::length_joined, crate::proofs::Answers::write_refused, crate::proofs::Answers::refused_set))]
     fn write(&mut self, place: u32, octet: u8) -> Result<(), MemoryFault> {
         match self.part(place)? {
             Part::First(at) => self.first.write(at, octet),

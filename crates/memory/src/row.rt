@@ -32,13 +32,11 @@ impl Memory for Row<'_> {
         self.cells.len().min(LIMIT)
     }
 
-    #[tactic(auto, using(crate::proofs::Cuts::row_read, crate::proofs::Answers::read_refused))]
     fn read(&mut self, place: u32) -> Result<u8, MemoryFault> {
         within(place, self.size())?;
         Ok(self.cells[place as usize])
     }
 
-    #[tactic(auto, using(crate::proofs::Cuts::row_set, crate::proofs::Answers::write_inside, crate::proofs::Answers::write_refused, crate::proofs::Answers::refused_set))]
     fn write(&mut self, place: u32, octet: u8) -> Result<(), MemoryFault> {
         within(place, self.size())?;
         self.cells[place as usize] = octet;

@@ -57,13 +57,11 @@ impl Memory for Words<'_> {
         2 * self.cells.len().min(LIMIT / 2)
     }
 
-    #[tactic(auto, using(crate::proofs::Halves::word_read, crate::proofs::Answers::read_refused))]
     fn read(&mut self, place: u32) -> Result<u8, MemoryFault> {
         within(place, self.size())?;
         Ok(half(self.cells[place as usize / 2], place))
     }
 
-    #[tactic(auto, using(crate::proofs::Halves::word_set, crate::proofs::Answers::write_inside, crate::proofs::Answers::write_refused, crate::proofs::Answers::refused_set))]
     fn write(&mut self, place: u32, octet: u8) -> Result<(), MemoryFault> {
         within(place, self.size())?;
         let word = &mut self.cells[place as usize / 2];
