@@ -4,7 +4,7 @@ use Rattle.std.proofs.Math.ListN.{get_or-map}
 use Rattle.std.specs.Option.{option_map}
 use Rattle.std.proofs.lemmas.List.{length-set, get_or-set_same, get_or-set_other, get_or_past}
 use Rattle.std.proofs.lemmas.Bool.{cases_Bool, cases_eq, cases_lt, ltb-true, leb-true, le-leb, and_parts, and_from, false≢true}
-use Rattle.memory.proofs.Answers.{read_inside, write_inside}
+use Rattle.memory.proofs.Answers.{read-inside, write-inside}
 use Rattle.bits.specs.Shares.{stored}
 use Rattle.channel.specs.Areas.{first_of, last_of}
 use Rattle.channel.specs.Windows.{offset_in, area_size}
@@ -148,7 +148,7 @@ module _ (N : ℕ) (s : Station) (ts : List (Option Story)) (size : length s.oct
       let within : n < length ts = some-within ts n t b.story-at in
       let stories : set ts n (Some (fetched_at k v t)) ≡ told_at (λ j. fetched_at j v) ts (Ok (InWindow n k)) = ap (λ u. set ts n (option_map (fetched_at k v) u)) (sym b.story-at) in
       read_done (InWindow n k) v (with_channels s.core (set cs n (in_service_as (after_fetch c k)))) e
-      (ap (fetched s x) is ∙ (ap (fetch_window s n k (x.address - 0x1000)) b.service-at ∙ ap (fetch_in s n c k) (sym (read_inside m (fetch_place c k) place))))
+      (ap (fetched s x) is ∙ (ap (fetch_window s n k (x.address - 0x1000)) b.service-at ∙ ap (fetch_in s n c k) (read-inside m (fetch_place c k) place)))
       (record { number = refl; registers = refl; alias = refl; running = refl })
       (subst (Channels m (set cs n (in_service_as (after_fetch c k)))) stories
       (record {
@@ -166,7 +166,7 @@ module _ (N : ℕ) (s : Station) (ts : List (Option Story)) (size : length s.oct
       go (Ok (InFree p)) e =
           let f = free-reached N (told ts) x p e in
           let place : p < length m = (let z = f.within in omega arith) in
-          read_done (InFree p) (get_or m p 0) s.core e (ap (fetched s x) (asked-as-told N s ts size h x ∙ e) ∙ ap (fetch_free s) (sym (read_inside m p place))) (rest-same s.core) h
+          read_done (InFree p) (get_or m p 0) s.core e (ap (fetched s x) (asked-as-told N s ts size h x ∙ e) ∙ ap (fetch_free s) (read-inside m p place)) (rest-same s.core) h
       go (Ok (InWindow n k)) e = read-window way n k e (asked-as-told N s ts size h x ∙ e)
 
   -- A WRITE at a place in no area leaves every channel as it is.
@@ -196,7 +196,7 @@ module _ (N : ℕ) (s : Station) (ts : List (Option Story)) (size : length s.oct
       let f = free-reached N (told ts) x p e in
       let place : p < length m = (let z = f.within in omega arith) in
       let v : ℕ = stored x.share (get_or m p 0) o in
-      write_done (InFree p) (over s.core (set m p v)) e (ap (stored_by s x o) is ∙ ap (store_free s x.share p o) (sym (read_inside m p place))) (rest-same s.core) (length-set m p v)
+      write_done (InFree p) (over s.core (set m p v)) e (ap (stored_by s x o) is ∙ ap (store_free s x.share p o) (read-inside m p place)) (rest-same s.core) (length-set m p v)
       (record {
         long = h.long;
         held = λ n. free-if p v (service_at cs n) (story_at ts n) f.place f.high (ap (λ g. covered g x.address) (sym (get_or-map (option_map facts_told) ts n None)) ∙ f.uncovered n) (h.held n);
@@ -224,7 +224,7 @@ module _ (N : ℕ) (s : Station) (ts : List (Option Story)) (size : length s.oct
       let within : n < length ts = some-within ts n t b.story-at in
       let stories : set ts n (Some (stored_at k o t)) ≡ told_at (λ j. stored_at j o) ts (Ok (InWindow n k)) = ap (λ u. set ts n (option_map (stored_at k o) u)) (sym b.story-at) in
       write_done (InWindow n k) (over (with_channels s.core (set cs n (in_service_as (after_store c k)))) after) e
-      (ap (stored_by s x o) is ∙ (ap (store_window s x.share n k (x.address - 0x1000) o) b.service-at ∙ ap (store_in s n c k o) (sym (write_inside m (store_place c k) place))))
+      (ap (stored_by s x o) is ∙ (ap (store_window s x.share n k (x.address - 0x1000) o) b.service-at ∙ ap (store_in s n c k o) (write-inside m (store_place c k) place)))
       (record { number = refl; registers = refl; alias = refl; running = refl })
       (length-set m (store_place c k) o)
       (subst (Channels after (set cs n (in_service_as (after_store c k)))) stories
