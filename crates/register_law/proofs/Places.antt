@@ -3,7 +3,7 @@ use Rattle.std.proofs.Common.{◌≡◌, ℕ, ◌+◌, ◌-◌, ◌*◌, ◌/◌
 use Rattle.std.proofs.lemmas.Bool.{and_parts, ltb-true, leb-true, false≢true, eqb-false, cases_eq}
 use Rattle.std.proofs.lemmas.List.{get_or-set_same, get_or-set_other}
 use Rattle.access.proofs.Fields.{fields-read-back}
-use Rattle.mapping.proofs.Registers.{entities_read_back}
+use Rattle.mapping.proofs.Registers.{entities-read-back}
 use Rattle.mapping.specs.Registers.{no_entity, entity_octet, with_entity_octet}
 use Rattle.channel.proofs.Octets.{settings-read-back}
 use Rattle.channel.specs.Settings.{octet_of, with_octet_at}
@@ -83,7 +83,7 @@ module _ (units : ℕ) (status : ℕ → ℕ) (r : Registers) (alias v : ℕ) (e
   other-of a b (OfEntity n i) (Alias j) s t ne = refl
   other-of a b (OfEntity n i) (OfEntity m j) s t ne =
       entry-other entity_octet (λ e k. with_entity_octet e k v) no_entity r.entities n i m j (omega (arith, eight.entities))
-      (λ e. (entities_read_back e i v small).other j) (λ e f. ne (omega arith))
+      (λ e. (entities-read-back e i v small).other j) (λ e f. ne (omega arith))
   other-of a b (OfEntity n i) (OfChannel m j) s t ne = refl
   other-of a b (OfChannel n i) Unlisted s t ne = refl
   other-of a b (OfChannel n i) (Fixed j) s t ne = refl
@@ -101,7 +101,7 @@ module _ (units : ℕ) (status : ℕ → ℕ) (r : Registers) (alias v : ℕ) (e
   same-of a (Address i) s w l = (fields-read-back 2 r.address i v small).same s.1
   same-of a (Alias i) s w l = absurd (false≢true w)
   same-of a (OfEntity n i) s w l =
-      ap (λ e. entity_octet e i) (get_or-set_same r.entities n _ no_entity (omega (arith, eight.entities))) ∙ (entities_read_back (get_or r.entities n no_entity) i v small).same
+      ap (λ e. entity_octet e i) (get_or-set_same r.entities n _ no_entity (omega (arith, eight.entities))) ∙ (entities-read-back (get_or r.entities n no_entity) i v small).same
   same-of a (OfChannel n i) s w l =
       ap (λ e. octet_of e (status n) i) (get_or-set_same r.settings n _ no_setting (omega (arith, eight.settings)))
       ∙ (settings-read-back (get_or r.settings n no_setting) (status n) i v small).same (eqb-false i 5 l)
