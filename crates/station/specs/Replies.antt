@@ -23,14 +23,14 @@ reply s r = record { after = s; says = r }
 abbrev pub reads_so : Station → Gathered → Reads
 reads_so s g = record { after = s; gathered = g.gathered; shown = g.shown; outcome = g.outcome }
 
+abbrev pub writes_so : Station → Outcome (Unit {0}) Fault → Writes
+writes_so s w = record { after = s; outcome = w }
+
 -- the outcome so far, and that of one access more: the first refusal stands
 abbrev pub also : {X : Type 0} → Outcome X Fault → Outcome X Fault → Outcome X Fault
 also NotWanted y = y
 also (Done u) y = y
 also (Refused f) y = Refused f
-
-abbrev pub writes_so : Station → Outcome (Unit {0}) Fault → Writes
-writes_so s w = record { after = s; outcome = w }
 
 -- THE ANSWERS of the five calls
 abbrev pub begun_as : Result Frame Fault → Answer
