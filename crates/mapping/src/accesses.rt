@@ -2,7 +2,6 @@
 ghost use Rattle.std.specs.Prelude.{◌≡◌, ℕ, ◌+◌, ◌*◌, ◌^◌, ◌<◌, ◌≤◌, true, ◌++◌, length};
 ghost use Rattle.arrayvec.specs.ArrayVec.{array_vec_len};
 ghost use Rattle.bits.specs.Bits.{bit_at};
-ghost use Rattle.cover.specs.Lowest.{Lowest};
 ghost use Rattle.mapping.specs.Mapping.{first_bit, first_octet, last_octet, turn_of, lands, access_for, landed_from, mapped_accesses};
 
 use crate::entity::Entity;
@@ -81,13 +80,6 @@ impl Span for Entity {
     }
 }
 
-// The lowest entity that lies in the logical octet at `address`, if any does.
-fn lowest_in(entities: &[Entity], address: u64) -> Option<usize>
-    ensures { Lowest first_octet last_octet address entities.now result }
-{
-    lowest_covering(entities, address)
-}
-
 // The accesses of the logical octet at `address` among up to eight entities: each that lies in the octet is looked at once, the lowest first,
 // until every bit is served.
 fn found_among(entities: &[Entity], direction: Direction, address: u64) -> Accesses
@@ -98,7 +90,7 @@ fn found_among(entities: &[Entity], direction: Direction, address: u64) -> Acces
     let mut free = 0xff;
     let mut rest = entities;
     while free != 0
-        && let Some(index) = lowest_in(rest, address)
+        && let Some(index) = lowest_covering(rest, address)
     {
         let entity = &rest[index];
         let covered = entity.bits_covered(direction).in_octet(address);

@@ -12,11 +12,11 @@ push_bits-requires-clause-started c =
 pub loop-free-preserved : goal.loop-free-preserved
 loop-free-preserved c =
     reached_more c.args.entities.now c.args.direction c.args.address c.loop-free.rest.now c.in-Some.index c.loop-free.free c.in_octet-covered.result c.bits_covered.result c.in_octet-covered.ensures c.bits_covered.ensures
-    _ c.loop-free.found.items c.push_bits.new.found.items refl c.in-Some.ensures.0 c.in-Some.ensures.2 (omega arith) c.push_bits.ensures.list c.push_bits.ensures.count c.loop-free.invariant
+    _ c.loop-free.found.items c.push_bits.new.found.items refl c.in-Some.ensures.lowest.0 c.in-Some.ensures.lowest.2 (omega arith) c.push_bits.ensures.list c.push_bits.ensures.count c.loop-free.invariant
 
 pub returns-in-loop-free : goal.returns-in-loop-free
 returns-in-loop-free c =
-    reached_all c.args.entities.now c.args.direction c.args.address c.loop-free.rest.now c.loop-free.free c.loop-free.found.items c.lowest_in.result c.lowest_in.ensures (search rules) c.loop-free.invariant
+    reached_all c.args.entities.now c.args.direction c.args.address c.loop-free.rest.now c.loop-free.free c.loop-free.found.items c.lowest_covering.result c.lowest_covering.ensures.lowest (search rules) c.loop-free.invariant
 
 pub returns-after-loop-free : goal.returns-after-loop-free
 returns-after-loop-free c =
