@@ -75,6 +75,7 @@ mod tests {
         );
         assert_eq!(rt; seen(&mut station, 0x1000), Ok(0x11));
         assert_eq!(rt; seen(&mut station, 0x1002), Err(8));
+        let _ = station.into_memory();
     }
 
     #[test]

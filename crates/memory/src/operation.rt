@@ -15,6 +15,7 @@ pub enum Operation {
 fn perform<M: Memory>(memory: &mut M, operation: Operation)
     ensures { M.octets memory.new ≡ performed (M.octets memory.old) operation }
 {
+    // A `match` and no closures: operations are data that a caller hands in.
     match operation {
         Operation::Read { place } => {
             let _ = memory.read(place);

@@ -7,6 +7,7 @@ use crate::fault::MemoryFault;
 use crate::{LIMIT, Memory, within};
 
 // A memory over a lent slice of words. What the slice holds beyond 61,440 octets is not part of it.
+// Apart from `Row`, since a cell has two places here, read and replaced by masks and shifts.
 #[derive(Drop)]
 pub struct Words<'a> {
     cells: &'a mut [u16],

@@ -75,6 +75,7 @@ pub enum Call {
 }
 
 // `Kept` names the lowest enabling that was refused, if any. `Refused` is a call that did nothing.
+// One enum for the answers of all five calls, since a history is a list of them; the calls themselves answer a `Result`.
 #[derive(Clone, Copy, PartialEq, Eq, Debug)]
 pub enum Answer {
     Running,

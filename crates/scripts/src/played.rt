@@ -65,6 +65,7 @@ fn perform(script: Script, heap: Global) -> Result<Played, AllocError>
     }
 }
 
+// Each of the three makes a memory of another type, and hands it to the one function under them.
 fn on_octets(script: Script, heap: Global, asked: u32) -> Result<Played, AllocError>
     ensures { IfOk result (λ played. PerformedOn (zeros asked) script played) }
 {

@@ -97,6 +97,7 @@ impl Script {
     }
 
     // The number is taken alike: a helper for both would be handed a field, its value and the test of the calls, and its callers be no shorter.
+    // The clause `err` here and below speaks of two moments, before and after, and so stands in no type.
     fn take_memory(&mut self, kind: Kind, count: u64) -> Result<(), AllocError>
         ensures leaves { Leaves result (with_memory kind count) self.old self.new }
         ensures err { OnErr result (self.new ≡ self.old) }

@@ -1,6 +1,6 @@
 // The station: its five calls over any memory. Each steps as the rules say and carries the promise about messages: whatever list of calls led
 // from a new station to this one, after the call the station is that run plus one call, and the promise holds of the longer history, with this
-// call's answer.
+// call's answer. The clause `frame` of three calls speaks of two moments, before and after, and so stands in no type.
 ghost use Rattle.std.specs.Prelude.{◌≡◌, length};
 ghost use Rattle.rules.specs.declared.data.Call.TheVariants.{Begin as BeginCall, Octet as OctetCall, End as EndCall, Read as ReadCall, Write as WriteCall};
 ghost use Rattle.rules.specs.Steps.{station as new_station, step};
@@ -42,7 +42,7 @@ impl<M: Memory> Station<M> {
                 number,
                 registers: no_registers(),
                 alias: 0,
-                channels: [Channel { service: None }; 8],
+                channels: [Channel::default(); 8],
                 running: None,
             },
             memory,

@@ -1,4 +1,5 @@
 // The accesses of one octet in turn: a refused one stops no other, and the first refusal is told.
+// Reads and writes stand apart: a read lays bits of what it fetched, a write takes the octet and answers nothing.
 ghost use Rattle.std.specs.Prelude.{◌≡◌, map};
 ghost use Rattle.access.specs.declared.Direction.TheVariants.{Read as Reading, Write as Writing};
 ghost use Rattle.core_steps.specs.Accessing.{accesses_in};

@@ -52,6 +52,7 @@ impl<M: Memory> Station<M> {
     fn perform(&mut self, call: Call) -> Answer
         ensures { (self.new.station, result) ≡ step self.old.station call }
     {
+        // A `match` and no closures: calls are data, with which a history is told.
         match call {
             Call::Begin => self
                 .begin()
