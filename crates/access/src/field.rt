@@ -48,6 +48,7 @@ impl Field for u32 {
     }
 }
 
+// An octet of a field's octets; 0 past the last.
 fn octet_of<const N: usize>(octets: [u8; N], index: u8) -> u8
     ensures { result ≡ slice_index octets.entry index }
 {

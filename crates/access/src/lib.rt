@@ -1,4 +1,5 @@
-// What channels, mapping and registers speak of in common: the side and the direction of an access, and the octets of a register field.
+// What channels, mapping and registers speak of in common: the side and the direction of an access, the octets of a register field, and a list
+// with one element replaced.
 #![tactic(auto)]
 
 pub mod field;

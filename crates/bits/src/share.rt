@@ -4,6 +4,7 @@ ghost use Rattle.bits.specs.declared.share.Share.TheVariants.{Part};
 ghost use Rattle.bits.specs.Shares.{share_of, laid, stored, AllBitsComeBack};
 
 // All eight bits in their places; or the logical bits of a mask, of which bit i is bit (i + turn) % 8 of the physical octet.
+// `Whole` is a share as any other, and not the lack of one.
 #[derive(Clone, Copy, PartialEq, Eq, Debug, Default)]
 pub enum Share {
     #[default]
@@ -45,6 +46,7 @@ impl Share {
 }
 
 #[tactic(auto, using(crate::proofs::Turns::laid_is))]
+// Apart from `laid`, and `part_stored` from `stored`, so that a wrong operand there is refused at the call.
 fn part_laid(bits: u8, turn: u8, octet: u8, fetched: u8) -> u8
     ensures { result ≡ laid (Part bits turn) octet fetched }
 {

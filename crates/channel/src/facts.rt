@@ -6,8 +6,8 @@ ghost use Rattle.channel.specs.Facts.{right_way, taken_of, opens, turn, asked, r
 use crate::setting::{Kind, Window};
 use access::{Direction, Side};
 
-// What the questions need to know of a channel in service: the octets that the open writing and the open reading have taken (an open one has taken
-// at least 1, so 0 is the number itself where none is open), has the running frame closed a transaction here, and is there a message to read: in a
+// What the questions need to know of a channel in service: the octets that the open writing and the open reading have taken (0 where none
+// is open, since an open one has taken at least 1), has the running frame closed a transaction here, and is there a message to read: in a
 // mailbox, it is full; in a buffered channel, a writing has been completed.
 #[derive(Clone, Copy)]
 pub struct Facts {
@@ -31,6 +31,7 @@ pub enum Refusal {
 }
 
 impl Refusal {
+    // One line in each enum of refusals: a trait over their crates would be no shorter.
     pub fn number(self) -> u8
         ensures { result ≡ refusal_number self }
     {

@@ -13,6 +13,7 @@ pub struct Channel {
     pub service: Option<Service>,
 }
 
+// Out of service it ends (0) before it begins (1), and so covers nothing.
 impl Span for Channel {
     ghost low = { low };
 

@@ -104,7 +104,7 @@ impl Setting {
     }
 }
 
-// Control bits 1 and 0.
+// Control bits 1 and 0. (Two readings of one octet, of which a `TryFrom<u8>` would not say which bits it reads.)
 fn kind_of(control: u8) -> Option<Kind>
     ensures { result ≡ kind_of control }
 {

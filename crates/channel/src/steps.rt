@@ -36,7 +36,7 @@ impl Transaction {
         matches!(self, Transaction::Waiting)
     }
 
-    // One more access, by `side`; the window's length says that one more than the offset fits.
+    // One more access, by `side`. (The whole window is handed in: where an offset does not close it, one more is below its length.)
     fn accessed(self, side: Side, offset: u16, window: Window) -> Transaction
         ensures { result ≡ accessed side self offset (closes window offset) }
     {
@@ -311,6 +311,7 @@ impl Service {
         }
     }
 
+    // Each names its own step: one function over both would be handed the step, and be no shorter.
     fn writing_done_if(self, done: bool) -> Service
         ensures { result ≡ writing_done_if done self }
     {

@@ -58,9 +58,11 @@ fn lasting_channel(setting: Setting, channel: Channel) -> Channel
 fn lasting_channels(settings: &[Setting; 8], channels: &[Channel; 8]) -> [Channel; 8]
     ensures { result ≡ all_lasting settings.now channels.now }
 {
+    // By index: of what a `zip` over both leaves in the array a proof knows nothing.
     array::from_fn(|i| lasting_channel(settings[i], channels[i]))
 }
 
+// An index goes with its setting, as one element of the settings counted.
 impl Enabling {
     fn asks(&self, index: u8, setting: Setting) -> bool
         ensures { result ≡ asks window_in begun_channel out_of_service index setting (enabled_as self.now) }

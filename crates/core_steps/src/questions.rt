@@ -59,7 +59,7 @@ pub fn ask_register(
     ask_setting(channels, register, access.address)
 }
 
-// A refusal that speaks of no channel.
+// A refusal that speaks of no channel. (Two, since an `Option` at each call would say less.)
 pub fn refused(reason: Reason, address: u32) -> Fault
     ensures { result ≡ Refuses reason address None }
 {

@@ -11,7 +11,7 @@ use channel::{Channel, Service, Setting};
 use mapping::entity::Entity;
 use rules::data::{Core, Register, Registers};
 
-// What stands at an address.
+// What stands at an address. (A function, since `Register` is another crate's.)
 pub fn register_at(address: u32) -> Register
     ensures { result ≡ register_of address }
 {
@@ -107,7 +107,7 @@ pub fn register_octet(units: u8, core: &Core, register: Register) -> u8
         Register::Address { octet } => core.registers.address.octet(octet),
         Register::Alias { octet } => core.alias.octet(octet),
         Register::OfEntity { index, octet } => {
-            let entity = element_or(&core.registers.entities, index, Entity::default());
+            let entity = element_or(&core.registers.entities, index, Entity::new());
             entity.octet(octet)
         }
         Register::OfChannel { index, octet } => {
@@ -132,7 +132,7 @@ pub fn with_register(registers: Registers, register: Register, octet: u8) -> Reg
             index,
             octet: place,
         } => {
-            let entity = element_or(&registers.entities, index, Entity::default());
+            let entity = element_or(&registers.entities, index, Entity::new());
             Registers {
                 entities: replaced(registers.entities, index, entity.with_octet(place, octet)),
                 ..registers

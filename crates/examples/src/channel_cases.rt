@@ -233,12 +233,7 @@ mod tests {
     // Each register octet of a channel, written with all bits and with none, and what is read then.
     #[test]
     fn register_octets(rt: HostRuntime) {
-        let zero = Setting {
-            start: 0,
-            length: 0,
-            control: 0,
-            enable: false,
-        };
+        let zero = Setting::default();
         let kept = [0xff, 0xff, 0xff, 0xff, 0x7f, 0x30, 0x01, 0x00];
         for (index, octet) in (0u8..8).zip(kept) {
             let ones = zero.with_octet(index, 0xff);

@@ -1,4 +1,5 @@
-// What the tests of a station share.
+// What the tests of a station share. They tell a refusal by its number, as the rules do. That a datagram has at most eight octets here is asked by
+// each helper, since no type of a slice says it.
 ghost use Rattle.std.specs.Prelude.{◌≤◌, length};
 
 use memory::Memory;

@@ -30,7 +30,7 @@ mod tests {
         transmit(station, octets, verdict).map_err(Fault::number)
     }
 
-    // Ends the frame that runs, which is so not handed back.
+    // Ends the frame that runs, so it is not handed back.
     fn ended<M: Memory>(
         station: &mut Station<M>,
         frame: Frame,
@@ -58,6 +58,7 @@ mod tests {
         }
     }
 
+    // The same calls in the other module, by another `sent`: a function over both would need that one's contract.
     #[test]
     fn buffered(rt: HostRuntime) {
         let mut cells = [0u8; 16];
@@ -85,6 +86,8 @@ mod tests {
         let mut station = Station::new(Row::new(&mut cells), 7);
         let mut other = Station::new(Row::new(&mut others), 8);
         assert_eq!(rt; astray(&mut station, &mut other)?, [Err(15), Err(17)]);
+        let _ = station.into_memory();
+        let _ = other.into_memory();
         Ok(())
     }
 }

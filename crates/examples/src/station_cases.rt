@@ -44,6 +44,7 @@ mod tests {
         ended(station, frame, verdict)
     }
 
+    // The same calls in the other module, by another `sent`: a function over both would need that one's contract.
     #[test]
     fn buffered(rt: HostRuntime) {
         let mut cells = [0u8; 16];
@@ -72,6 +73,8 @@ mod tests {
         let mut other = Station::new(Row::new(&mut others), 8);
         let frame = other.begin()?;
         assert_eq!(rt; ended(&mut station, frame, Verdict::Good), Err(15));
+        let _ = station.into_memory();
+        let _ = other.into_memory();
         Ok(())
     }
 }

@@ -1,5 +1,5 @@
 // The laws of whole frames: each function's contract is the theorem, for every type of fault.
-// Each is answered in proofs/laws: search reads a law computed, so that no lemma named by `using` fits it.
+// Each is answered in proofs/laws: the prover's search unfolds a law first, so that no lemma named beside the function fits it.
 ghost use Rattle.frame.specs.Laws.{DatagramLeaves, DatagramIsFollowed, DataOctetAsks, PaddingLeaves, PassingLeaves, FrameLeaves, FrameEnds, CutFrameDoesNotEnd, FirstOctetsCount, FirstOctetsLeave, FrameIsKept, PassingIsKept, LongFrameIsDropped, CutFrameIsDropped};
 
 pub fn of_datagrams<F>()

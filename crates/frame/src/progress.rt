@@ -71,7 +71,7 @@ impl Progress {
     }
 
     // Takes one octet with what came of its accesses, and gives the octet that leaves. Past the first 1,500 it is refused and changes nothing
-    // but the note of it: the caller forwards it as it came.
+    // but the note of it: the caller forwards it as it came. (The three are what one octet brings: a struct of them would be made for this alone.)
     pub fn octet<F>(
         &mut self,
         octet: u8,

@@ -11,7 +11,7 @@ use bits::share::Share;
 use cover::{Span, lowest_covering};
 
 // One access more, if there are bits for it.
-fn push(found: &mut Accesses, address: u32, bits: u8, turn: u8)
+fn push_access(found: &mut Accesses, address: u32, bits: u8, turn: u8)
     requires { array_vec_len found.old < 16 }
     ensures list { found.new.items ≡ found.old.items ++ access_for address bits turn }
     ensures count { array_vec_len found.new ≤ array_vec_len found.old + 1 }
@@ -42,8 +42,8 @@ impl Entity {
         let first = self.landing(address);
         let octet = first / 8;
         let front = 0xff >> (first % 8);
-        push(found, octet, bits & front, turn);
-        push(found, octet + 1, bits & !front, turn);
+        push_access(found, octet, bits & front, turn);
+        push_access(found, octet + 1, bits & !front, turn);
     }
 
     // The physical bit where bit 0 of the logical octet at `address` lands, 0 if it comes before all of them.
@@ -82,6 +82,8 @@ impl Span for Entity {
 
 // The accesses of the logical octet at `address` among up to eight entities: each that lies in the octet is looked at once, the lowest first,
 // until every bit is served.
+// Apart from `accesses_at`, so that a wrong operand there is refused at the call. The rest of the slice is searched anew: a `for` over all would
+// look at the entities after the last free bit as well.
 fn found_among(entities: &[Entity], direction: Direction, address: u64) -> Accesses
     requires { length entities.now ≤ 8 }
     ensures { result.items ≡ mapped_accesses entities.now direction address }

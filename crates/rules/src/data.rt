@@ -34,7 +34,7 @@ pub struct Running {
     pub waiting: Registers,
 }
 
-// The station beside its memory.
+// The station beside its memory. Channels stand apart from their settings, which also wait in a running frame, where there are no services.
 #[derive(Clone, Copy)]
 pub struct Core {
     pub number: u16,

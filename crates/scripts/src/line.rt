@@ -120,6 +120,7 @@ fn frame_of(words: &[&str], own: u16) -> Option<u16>
     }
 }
 
+// A function, since `Verdict` is another crate's.
 fn verdict_of(word: &str) -> Option<Verdict>
     ensures { result ≡ verdict_named word.now }
 {

@@ -15,6 +15,7 @@ use std::alloc::{AllocError, Global};
 use std::marker::Model;
 
 // What has a line of output: the next of the calls, or a line that cannot be read. (`replay` takes the calls as one slice of their own.)
+// Two names: an `Option` of a number would not say what it is the number of.
 #[derive(Clone, Copy)]
 pub enum Item {
     Call,
@@ -139,6 +140,7 @@ impl Script {
     fn push(&mut self, call: Call) -> Result<(), AllocError>
         ensures { Leaves result (with_calls (call ∷ [])) self.old self.new }
     {
+        // `replay` puts the answer in the place of this one.
         let answer = Answer::Running;
         self.entries.push(Entry { call, answer })?;
         self.items.push(Item::Call)?;

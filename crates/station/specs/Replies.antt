@@ -41,6 +41,7 @@ abbrev pub octet_as : Result OctetAnswer Fault → Answer
 octet_as (Ok a) = Forwards a.forwarded a.read a.write
 octet_as (Err f) = Refuse f
 
+-- an end that is kept or dropped
 abbrev pub kept_as : Result (Option Fault) Fault → Answer
 kept_as (Ok e) = Kept e
 kept_as (Err f) = Drops f

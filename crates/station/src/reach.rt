@@ -1,4 +1,5 @@
 // One access of the station: the questions before it, and then the read or the write.
+// Fetches and stores stand apart: a store takes the octet and its share, and leaves the memory another.
 ghost use Rattle.std.specs.Prelude.{◌≡◌, ◌-◌, Ok as Reached};
 ghost use Rattle.memory.specs.Octets.{read_of, write_of};
 ghost use Rattle.channel.specs.Services.{store_place, fetch_place};

@@ -26,7 +26,7 @@ pub enum EndRefusal {
 }
 
 impl EndRefusal {
-    // The refusal as a fault. A frame that was handed back is let go with it: if its station still stands, end it there instead.
+    // The refusal as a fault; no `From`, so that no `?` lets a frame go unseen. A frame that was handed back is let go with it: if its station still stands, end it there instead.
     pub fn fault(self) -> Fault
         ensures { result ≡ end_fault self }
     {

@@ -11,6 +11,6 @@ returns c =
           two-more c.args.self.now c.args.address c.args.bits c.landing-first.result c.turn-turn.result _ _ _ _ _ c.landing-first.ensures.place c.turn-turn.ensures
           (ap (λ n. bit_and c.args.bits (255 / 2 ^ (n % 8))) c.landing-first.ensures.place ∙ near-bits c.args.self.now c.args.address c.args.bits (omega arith) c.requires.started)
           (ap (λ n. bit_and c.args.bits (255 - 255 / 2 ^ (n % 8))) c.landing-first.ensures.place ∙ far-bits c.args.self.now c.args.address c.args.bits (omega arith) c.requires.started)
-          c.push.ensures.list c.push-2.ensures.list;
+          c.push_access.ensures.list c.push_access-2.ensures.list;
       count = omega arith;
     }
