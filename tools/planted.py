@@ -12,10 +12,8 @@ import re
 AT_PROOF = {
     "cover/index_halved",
     "memory/read_after_another_place",
-    "memory/row_cut_dropped",
     "memory/row_read_constant",
     "memory/row_write_forgets",
-    "memory/words_other_half_lost",
     "memory/words_read_unhalved",
     "memory/words_write_constant",
 }
