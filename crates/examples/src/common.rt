@@ -2,10 +2,6 @@
 // each helper, since no type of a slice says it.
 ghost use Rattle.std.specs.Prelude.{◌≤◌, length};
 
-use memory::Memory;
-use rules::fault::Fault;
-use station::Station;
-
 // The registers of a channel: start 0x1000, four octets, buffered, the master stores, enabled.
 pub(crate) const STORING: [u8; 8] = [0x00, 0x10, 4, 0, 0x04, 0, 1, 0];
 
@@ -18,9 +14,4 @@ pub(crate) fn header(ado: u16, payload: &[u8]) -> [u8; 12]
     let [low, high] = ado.to_le_bytes();
     let count = payload.len() as u8;
     [12 + count, 0x10, 2, 0, 0, 0, low, high, count, 0, 0, 0]
-}
-
-// The octet that the local side reads, or the refusal's number.
-pub(crate) fn seen<M: Memory>(station: &mut Station<M>, address: u32) -> Result<u8, u8> {
-    station.read(address).map_err(Fault::number)
 }

@@ -4,7 +4,7 @@ ghost use Rattle.station.specs.Replies.{frame_in};
 
 #[cfg(test)]
 mod tests {
-    use crate::common::{MESSAGE, STORING, header, seen};
+    use crate::common::{MESSAGE, STORING, header};
     use crate::driver::transmit;
     use frame::progress::Verdict;
     use memory::Memory;
@@ -67,15 +67,15 @@ mod tests {
             sent(&mut station, 0x0800, &STORING, Verdict::Good),
             Ok(None)
         );
-        assert_eq!(rt; seen(&mut station, 0x1000), Err(11));
+        assert_eq!(rt; station.read(0x1000).map_err(Fault::number), Err(11));
         assert_eq!(rt; sent(&mut station, 0x1000, &MESSAGE, Verdict::Bad), Err(18));
-        assert_eq!(rt; seen(&mut station, 0x1000), Err(11));
+        assert_eq!(rt; station.read(0x1000).map_err(Fault::number), Err(11));
         assert_eq!(rt;
             sent(&mut station, 0x1000, &MESSAGE, Verdict::Good),
             Ok(None)
         );
-        assert_eq!(rt; seen(&mut station, 0x1000), Ok(0x11));
-        assert_eq!(rt; seen(&mut station, 0x1002), Err(8));
+        assert_eq!(rt; station.read(0x1000).map_err(Fault::number), Ok(0x11));
+        assert_eq!(rt; station.read(0x1002).map_err(Fault::number), Err(8));
         let _ = station.into_memory();
     }
 

@@ -3,7 +3,7 @@ ghost use Rattle.std.specs.Prelude.{◌≤◌, length};
 
 #[cfg(test)]
 mod tests {
-    use crate::common::{MESSAGE, STORING, header, seen};
+    use crate::common::{MESSAGE, STORING, header};
     use frame::progress::Verdict;
     use memory::Memory;
     use memory::row::Row;
@@ -53,15 +53,15 @@ mod tests {
             sent(&mut station, 0x0800, &STORING, Verdict::Good),
             Ok(None)
         );
-        assert_eq!(rt; seen(&mut station, 0x1000), Err(11));
+        assert_eq!(rt; station.read(0x1000).map_err(Fault::number), Err(11));
         assert_eq!(rt; sent(&mut station, 0x1000, &MESSAGE, Verdict::Bad), Err(18));
-        assert_eq!(rt; seen(&mut station, 0x1000), Err(11));
+        assert_eq!(rt; station.read(0x1000).map_err(Fault::number), Err(11));
         assert_eq!(rt;
             sent(&mut station, 0x1000, &MESSAGE, Verdict::Good),
             Ok(None)
         );
-        assert_eq!(rt; seen(&mut station, 0x1000), Ok(0x11));
-        assert_eq!(rt; seen(&mut station, 0x1002), Err(8));
+        assert_eq!(rt; station.read(0x1000).map_err(Fault::number), Ok(0x11));
+        assert_eq!(rt; station.read(0x1002).map_err(Fault::number), Err(8));
         let _ = station.into_memory();
     }
 
