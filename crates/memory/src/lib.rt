@@ -15,8 +15,8 @@ use fault::MemoryFault;
 // The most octets that a memory has.
 pub const LIMIT: usize = 61_440;
 
-// Refuses a place that a memory of `size` octets does not have.
-fn within(place: u32, size: usize) -> Result<(), MemoryFault>
+// Refuses a place that a memory of `size` octets does not have: what each memory asks first, a licensee's too.
+pub fn within(place: u32, size: usize) -> Result<(), MemoryFault>
     ensures { Within size place result }
 {
     if (place as usize) < size {
