@@ -4,10 +4,11 @@ ghost use Rattle.memory.specs.Cuts.{joined, joined-bounded};
 ghost use Rattle.memory.specs.Parts.{Lies};
 
 use crate::fault::MemoryFault;
-use crate::{LIMIT, Memory, within};
+use crate::{LIMIT, Memory};
 
 // A place of the first or of the second memory.
-enum Part {
+#[derive(Clone, Copy)]
+pub enum Part {
     First(u32),
     Second(u32),
 }
@@ -32,12 +33,17 @@ impl<F: Memory, S: Memory> Joined<F, S> {
     fn part(&self, place: u32) -> Result<Part, MemoryFault>
         ensures { Lies (length (F.octets self.now.first)) (length (S.octets self.now.second)) place result }
     {
-        within(place, self.size())?;
+        // Each size is asked once, and compared with the place alone: a sum of both, cut, costs a join of joins twice the time.
         let first = self.first.size() as u32;
-        if place < first {
+        let second = self.second.size() as u32;
+        if place as usize >= LIMIT {
+            Err(MemoryFault::at(place))
+        } else if place < first {
             Ok(Part::First(place))
-        } else {
+        } else if place - first < second {
             Ok(Part::Second(place - first))
+        } else {
+            Err(MemoryFault::at(place))
         }
     }
 }
