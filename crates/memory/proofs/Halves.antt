@@ -31,24 +31,27 @@ write-half (w ∷ ws) (suc zero) v h =
     rw (low, high)
 write-half (w ∷ ws) (suc (suc i)) v h = rw (word_more, half-more) (ap (λ l. w % 256 ∷ (w / 256 ∷ l)) (write-half ws i v h))
 
--- what the memory of the halves answers, by the word at a place
-module _ (ws : List ℕ) where
-  pub length_words : length (halves (counted 30720 ws)) ≡ 2 * min (length ws) 30720
-  length_words = omega (arith, length-halves (counted 30720 ws), length_counted 30720 ws)
+-- what the memory of the halves answers, by the word at a place, of words of which only the first n count
+module _ (n : ℕ) (ws : List ℕ) where
+  pub length_counted-words : length (halves (counted n ws)) ≡ 2 * min (length ws) n
+  length_counted-words = omega (arith, length-halves (counted n ws), length_counted n ws)
 
-  module _ (i : ℕ) (counts : i < length (halves (counted 30720 ws))) where
-    within : i / 2 < length (counted 30720 ws)
-    within = omega (arith, length-halves (counted 30720 ws))
+  module _ (i : ℕ) (counts : i < length (halves (counted n ws))) where
+    within : i / 2 < length (counted n ws)
+    within = omega (arith, length-halves (counted n ws))
 
-    same_word : get_or (counted 30720 ws) (i / 2) 0 ≡ get_or ws (i / 2) 0
-    same_word = counted-get 30720 ws (i / 2) within
+    same_word : get_or (counted n ws) (i / 2) 0 ≡ get_or ws (i / 2) 0
+    same_word = counted-get n ws (i / 2) within
 
-    pub word_read : (x : ℕ) → x ≡ half_at (get_or ws (i / 2) 0) i → Ok x ≡ read_of (halves (counted 30720 ws)) i
+    pub word_read : (x : ℕ) → x ≡ half_at (get_or ws (i / 2) 0) i → Ok x ≡ read_of (halves (counted n ws)) i
     word_read x is =
-        ap Ok (is ∙ ap (λ w. half_at w i) (sym same_word) ∙ sym (read-half (counted 30720 ws) i))
-        ∙ sym (read-inside (halves (counted 30720 ws)) i counts)
+        ap Ok (is ∙ ap (λ w. half_at w i) (sym same_word) ∙ sym (read-half (counted n ws) i))
+        ∙ sym (read-inside (halves (counted n ws)) i counts)
 
-    pub word_set : (w v : ℕ) → v < 256 → w ≡ with_half (get_or ws (i / 2) 0) i v → halves (counted 30720 (set ws (i / 2) w)) ≡ set (halves (counted 30720 ws)) i v
+    pub word_set : (w v : ℕ) → v < 256 → w ≡ with_half (get_or ws (i / 2) 0) i v → halves (counted n (set ws (i / 2) w)) ≡ set (halves (counted n ws)) i v
     word_set w v h is =
-        let same : w ≡ with_half (get_or (counted 30720 ws) (i / 2) 0) i v = is ∙ ap (λ x. with_half x i v) (sym same_word) in
-        ap halves (counted_set 30720 ws (i / 2) within w ∙ ap (set (counted 30720 ws) (i / 2)) same) ∙ write-half (counted 30720 ws) i v h
+        let same : w ≡ with_half (get_or (counted n ws) (i / 2) 0) i v = is ∙ ap (λ x. with_half x i v) (sym same_word) in
+        ap halves (counted_set n ws (i / 2) within w ∙ ap (set (counted n ws) (i / 2)) same) ∙ write-half (counted n ws) i v h
+
+pub length_words : (ws : List ℕ) → length (halves (counted 30720 ws)) ≡ 2 * min (length ws) 30720
+length_words ws = length_counted-words 30720 ws

@@ -8,4 +8,4 @@ returns-in_err-within c =
     record { value = read_refused _ c.args.place (omega (arith, c.in_err-within.ensures.1)) _ _ c.from_residual.ensures.1 c.in_err-within.ensures.0; same = refl }
 
 pub returns : goal.returns
-returns c = record { value = word_read c.args.self.now.cells.now c.args.place (omega (arith, c.in_ok-within.ensures)) _ c.half.ensures; same = refl }
+returns c = record { value = word_read 30720 c.args.self.now.cells.now c.args.place (omega (arith, c.in_ok-within.ensures)) _ c.half.ensures; same = refl }

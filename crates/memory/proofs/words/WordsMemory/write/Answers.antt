@@ -13,4 +13,4 @@ returns-in_err-within c =
     }
 
 pub returns : goal.returns
-returns c = record { value = sym (write-inside _ c.args.place (omega (arith, c.in_ok-within.ensures))); after = word_set c.args.self.now.cells.now c.args.place (omega (arith, c.in_ok-within.ensures)) _ _ c.ranges.octet.fits c.with_half.ensures }
+returns c = record { value = sym (write-inside _ c.args.place (omega (arith, c.in_ok-within.ensures))); after = word_set 30720 c.args.self.now.cells.now c.args.place (omega (arith, c.in_ok-within.ensures)) _ _ c.ranges.octet.fits c.with_half.ensures }
