@@ -19,7 +19,7 @@ use rules::fault::Fault;
 
 // The accesses of an octet in one direction: none, one at a physical address, or those of a mapped octet.
 // Three kinds and not one list: a physical octet makes one access, and fills no list for it.
-#[derive(Drop)]
+#[derive(Clone, Copy)]
 pub enum OctetAccesses {
     Nothing,
     One(u32),
@@ -64,7 +64,7 @@ fn first_write(writes: &OctetAccesses) -> Option<u32>
     match writes {
         OctetAccesses::Nothing => None,
         OctetAccesses::One(address) => Some(*address),
-        OctetAccesses::Mapped(list) => list.first().map(|access| access.address),
+        OctetAccesses::Mapped(list) => list.as_slice().first().map(|access| access.address),
     }
 }
 

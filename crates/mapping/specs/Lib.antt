@@ -1,2 +1,3 @@
+pub mod Listed
 pub mod Mapping
 pub mod Registers

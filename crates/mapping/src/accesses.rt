@@ -1,6 +1,5 @@
 // The accesses that one logical octet makes: by entity, then by physical octet.
-ghost use Rattle.std.specs.Prelude.{◌≡◌, ℕ, ◌+◌, ◌*◌, ◌^◌, ◌<◌, ◌≤◌, true, ◌++◌, length};
-ghost use Rattle.arrayvec.specs.ArrayVec.{array_vec_len};
+ghost use Rattle.std.specs.Prelude.{◌≡◌, ℕ, ◌+◌, ◌*◌, ◌^◌, ◌<◌, ◌≤◌, true, [], ◌∷◌, ◌++◌, length};
 ghost use Rattle.bits.specs.Bits.{bit_at};
 ghost use Rattle.mapping.specs.Mapping.{first_bit, first_octet, last_octet, turn_of, lands, access_for, landed_from, mapped_accesses};
 
@@ -10,11 +9,38 @@ use access::Direction;
 use bits::share::Share;
 use cover::{Span, lowest_covering};
 
+impl Accesses {
+    fn new() -> Accesses
+        ensures { result.items ≡ [] }
+    {
+        Accesses {
+            list: [Access::default(); 16],
+            count: 0,
+        }
+    }
+
+    // The accesses, in their order.
+    pub fn as_slice(&self) -> &[Access]
+        ensures { result.now ≡ self.now.items }
+    {
+        &self.list[0..self.count]
+    }
+
+    fn push(&mut self, access: Access)
+        requires { length self.old.items < 16 }
+        ensures { self.new.items ≡ self.old.items ++ access ∷ [] }
+    {
+        let place = self.count;
+        self.list[place] = access;
+        self.count = place + 1;
+    }
+}
+
 // One access more, if there are bits for it.
 fn push_access(found: &mut Accesses, address: u32, bits: u8, turn: u8)
-    requires { array_vec_len found.old < 16 }
+    requires { length found.old.items < 16 }
     ensures list { found.new.items ≡ found.old.items ++ access_for address bits turn }
-    ensures count { array_vec_len found.new ≤ array_vec_len found.old + 1 }
+    ensures count { length found.new.items ≤ length found.old.items + 1 }
 {
     if bits != 0 {
         let share = Share::of(bits, turn);
@@ -32,11 +58,11 @@ impl Entity {
 
     // Adds the accesses of those bits of the logical octet at `address`: the lower physical octet first.
     fn push_bits(&self, address: u64, bits: u8, found: &mut Accesses)
-        requires room { array_vec_len found.old ≤ 14 }
+        requires room { length found.old.items ≤ 14 }
         requires within { address < self.now.logical + self.now.length }
         requires started { (i : ℕ) → i < 8 → bit_at bits i ≡ true → first_bit self.now ≤ 8 * address + i }
         ensures list { found.new.items ≡ found.old.items ++ landed_from self.now address bits }
-        ensures count { array_vec_len found.new ≤ array_vec_len found.old + 2 }
+        ensures count { length found.new.items ≤ length found.old.items + 2 }
     {
         let turn = self.turn();
         let first = self.landing(address);
