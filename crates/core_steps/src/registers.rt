@@ -6,7 +6,7 @@ ghost use Rattle.rules.specs.Steps.{in_service_as, service_at};
 
 use access::Side;
 use access::field::Field;
-use access::list::replaced;
+use access::list::{replace, replaced};
 use channel::{Channel, Service, Setting};
 use mapping::entity::Entity;
 use rules::data::{Core, Register, Registers};
@@ -60,7 +60,10 @@ pub(crate) fn may_write(side: Side, register: Register) -> bool
 pub fn no_registers() -> Registers
     ensures { result ≡ new_registers }
 {
-    Registers::default()
+    Registers {
+        entities: [Entity::new(); 8],
+        ..Registers::default()
+    }
 }
 
 // The element at an index, or `other` past the last.
@@ -83,7 +86,8 @@ pub fn set_service(channels: &mut [Channel; 8], index: u8, service: Service)
     let channel = Channel {
         service: Some(service),
     };
-    *channels = replaced(*channels, index, channel);
+    // In place: `replaced` would copy all eight twice at each access of a window.
+    replace(channels, index, channel);
 }
 
 // Eight entities, eight channels and the memory's size in units of 1,024 octets.
