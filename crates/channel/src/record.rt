@@ -21,11 +21,14 @@ impl Span for Channel {
 
     fn first(&self) -> u64 {
         self.service
+            .as_ref()
             .map_or(1, |service| u64::from(service.window.start))
     }
 
     fn last(&self) -> u64 {
-        self.service.map_or(0, |service| service.window.last())
+        self.service
+            .as_ref()
+            .map_or(0, |service| service.window.last())
     }
 }
 

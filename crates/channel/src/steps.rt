@@ -190,10 +190,14 @@ impl Service {
     pub fn after_fetch(self, offset: u16) -> Service
         ensures { result ≡ after_fetch self offset }
     {
+        // An `if` and no `reading_done_if`, which costs half as much again here.
         let window = self.window;
-        self.opened()
-            .with_fetch(offset)
-            .reading_done_if(window.completes(window.fetches(), offset))
+        let fetched = self.opened().with_fetch(offset);
+        if window.completes(window.fetches(), offset) {
+            fetched.reading_done()
+        } else {
+            fetched
+        }
     }
 
     // The running frame's end is kept: what it closed completes.
