@@ -5,7 +5,7 @@ use Rattle.std.specs.Fn.{Called, Mut}
 use Rattle.std.proofs.lemmas.List.{same_lists, length-map, get_or-map, get_or_default}
 
 -- a list of the same length that has at each place g of what another has there
-all_of : {X Y : Type 0} (g : X → Y) (d : X) (z : Y) (xs : List X) (ys : List Y) → length ys ≡ length xs → ((k : ℕ) → k < length xs → get_or ys k z ≡ g (get_or xs k d)) → ys ≡ map g xs
+pub all_of : {X Y : Type 0} (g : X → Y) (d : X) (z : Y) (xs : List X) (ys : List Y) → length ys ≡ length xs → ((k : ℕ) → k < length xs → get_or ys k z ≡ g (get_or xs k d)) → ys ≡ map g xs
 all_of g d z xs ys long each =
     same_lists ys (map g xs) (long ∙ sym (length-map xs g))
     (λ k e h. let small : k < length xs = omega (arith, long) in get_or_default ys k e z h ∙ each k small ∙ sym (get_or-map g xs k d e small))

@@ -33,7 +33,8 @@ fn dropped_channel(channel: Channel) -> Channel
 pub fn dropped_channels(channels: &[Channel; 8]) -> [Channel; 8]
     ensures { result ≡ map dropped_channel channels.now }
 {
-    channels.map(dropped_channel)
+    // By index: `map` takes the array by value, and copies it twice.
+    array::from_fn(|i| dropped_channel(channels[i]))
 }
 
 fn kept_channel(channel: Channel) -> Channel
